@@ -78,9 +78,10 @@ def received(form, receives, reading, seen):
 
 
 class Record(list):
-    """The fields of a record as a log without a header has them, and beside them those of the stamp that its message carried, if it tells one."""
+    """The fields of a record as a log without a header has them, and beside them those of the stamp that its message carried, if it tells one, and
+    the node that it names as the sender, if it does so in place of the message."""
 
-    carried = ()
+    carried, sender = (), b""
 
 
 ODD = [b",", b'"', b"\n", b"\r\n", b"\r", b" ", b"\xff", b"\x00", b"\xef\xbb\xbf", "é".encode(), b"a", b"0", b"=", b"\\", b"local"]
@@ -151,14 +152,15 @@ def each_form(rng, turn):
     return (model.Form(), model.Form(dotted=True), model.Form(packed=rng.choice((1, 4, 12, 31, 32))))[turn % 3]
 
 
-def small(rng, form, receives=model.TICK, restarts=0, carries=0):
-    """The records of each node of a small log, whose clocks do this at receives. So many of its events are restarts, and so many of its receives
-    tell what their messages carried."""
+def small(rng, form, receives=model.TICK, restarts=0, carries=0, untold=0, senders=0):
+    """The records of each node of a small log, whose clocks do this at receives. So many of its events are restarts, so many of its receives
+    tell what their messages carried, and so many don't tell their stamps. So many of its sends have no name for their message, and so many of the
+    other receives name the node that sent, too, if they tell what was carried."""
     nodes, events = rng.randrange(1, 7), rng.randrange(41)
     odd, wrong, lost = rng.random() < 0.4, rng.choice((0, 0, 0.05, 0.2, 0.6)), rng.choice((0, 0, 0, 0.1))
     highest = min(model.MOST_READING, model.MOST_NUMBER >> (form.packed or 0)) - 500
     time = rng.choice((1, 1, 10, 10, 1000, highest))
-    pace, labels, untold = rng.choice((1, 2, 5)), rng.choice((0, 0.3)), rng.choice((0, 0, 0, 0.2, 1))
+    pace, labels, unread = rng.choice((1, 2, 5)), rng.choice((0, 0.3)), rng.choice((0, 0, 0, 0.2, 1))
     skew = [rng.randrange(10) * rng.randrange(2) for _ in range(nodes)]
     lists, last, sends = [[] for _ in range(nodes)], [(0, 0)] * nodes, []
     called, messages = names(rng, nodes, odd), names(rng, events + 1, odd)
@@ -166,7 +168,7 @@ def small(rng, form, receives=model.TICK, restarts=0, carries=0):
         time += rng.randrange(pace)
         node = rng.randrange(nodes)
         reading = time + skew[node]
-        word, message, seen, brought = b"local", (), last[node], None
+        word, message, from_node, seen, brought = b"local", (), b"", last[node], None
         chance = rng.random()
         if restarts and rng.random() < restarts:
             word = b"restart"
@@ -175,26 +177,34 @@ def small(rng, form, receives=model.TICK, restarts=0, carries=0):
             if carries:
                 brought = carried(rng, form, (max(reading + rng.randrange(-3, 9), 0), rng.randrange(3)))
                 seen = max(seen, brought)
+                if rng.random() < senders:
+                    message, from_node = (b"",), rng.choice([*called, b"nobody"])
         elif chance < 0.4 and sends:
             sender, sent, stamp = rng.choice(sends[-6:])
             if sender != node or rng.random() < 0.1:
-                brought = carried(rng, form, stamp) if carries and rng.random() < carries else None
+                brought = carried(rng, form, stamp) if not sent or carries and rng.random() < carries else None
                 word, message, seen = b"receive", (sent,), max(seen, brought or stamp)
+                if not sent or brought and rng.random() < senders:
+                    message, from_node = (b"",), called[sender]
         elif chance < 0.75:
-            word, message = b"send", (messages[place],)
+            word, message = b"send", (b"" if rng.random() < senders else messages[place],)
         if word == b"restart":
             given = restored(rng, form, reading, last[node])
         elif word == b"receive":
             given = received(form, receives, reading, seen)
         else:
             given = follow(form, reading, seen) if seen != (0, 0) else (reading, 0)
-        stamp = last[node] = given if word == b"restart" else claimed(rng, form, reading, last[node], given, wrong)
+        repeats = senders and word == b"send" and last[node] != (0, 0) and rng.random() < 0.2
+        if not repeats and word != b"restart":
+            given = claimed(rng, form, reading, last[node], given, wrong)
+        stamp = last[node] = last[node] if repeats else given
         if word == b"send":
-            sends.append((node, messages[place], stamp))
+            sends.append((node, *message, stamp))
         label = [b"".join(rng.choice(ODD) for _ in range(rng.randrange(4)))] if rng.random() < labels else []
-        told = b"" if rng.random() < untold else b"%d" % reading
-        record = Record([word, called[node], told, *stamp_fields(form, stamp), *message, *label])
-        record.carried = stamp_fields(form, brought) if brought else ()
+        read = b"" if rng.random() < unread else b"%d" % reading
+        of_stamp = [b""] * form.width if word == b"receive" and rng.random() < untold else stamp_fields(form, stamp)
+        record = Record([word, called[node], read, *of_stamp, *message, *label])
+        record.carried, record.sender = stamp_fields(form, brought) if brought else (), from_node
         lists[node].append(record)
     return lists
 
@@ -204,9 +214,19 @@ def carried_by(fields):
     return getattr(fields, "carried", ())
 
 
-def carry_stamps(lists):
-    """Whether some record tells what its message carried."""
-    return any(carried_by(fields) for records in lists for fields in records)
+def sender_of(fields):
+    """The node that a record names as the sender, if it does."""
+    return getattr(fields, "sender", b"")
+
+
+def names_senders(form, records):
+    """Whether some record names a node as the sender, or sends a message without a name: then there has to be a column for the first."""
+    return any(sender_of(fields) or fields[0] == b"send" and fields[3 + form.width : 4 + form.width] == [b""] for fields in records)
+
+
+def needs_header(form, lists):
+    """Whether some record tells what a log without a header can't tell."""
+    return any(names_senders(form, records) or any(carried_by(fields) for fields in records) for records in lists)
 
 
 def without_a_node(rng, lists):
@@ -231,6 +251,7 @@ def column_list(rng, form, records, spoils):
     has_readings = any(fields[0] in model.KINDS and fields[2:3] not in ([], [b""]) for fields in records)
     is_carrying = any(carried_by(fields) for fields in records)
     names = [b"node", *form.columns, *(form.carried_columns if is_carrying else ())] + [b"reading"] * (rng.random() < (0.9 if spoils else 1 if has_readings else 0.5))
+    names += [b"from"] * (names_senders(form, records) or rng.random() < 0.1)
     names += [b"message"] * (rng.random() < (0.9 if spoils else 1 if has_messages else 0.5)) + [b"label"] * (rng.random() < 0.7)
     rng.shuffle(names)
     if spoils and rng.random() < 0.25:
@@ -265,11 +286,13 @@ def headed(rng, form, records, spoils=False):
             continue
         least, brought = 3 + width + (fields[0] in model.NAMED), carried_by(fields) or [b""] * width
         missing, more = least - len(fields), fields[least + 1 :]
-        fields = fields[: least + 1] + [b""] * missing
+        source, fields = fields, fields[: least + 1] + [b""] * missing
         under = dict(zip((b"node", b"reading", *form.columns), fields[1 : 3 + width]))
         under[b"message"] = fields[least - 1] if least > 3 + width else junk(rng)
         under[b"label"] = fields[least] if len(fields) > least else b""
         under |= {name: field if fields[0] == b"receive" else junk(rng) for name, field in zip(form.carried_columns, brought) if is_carrying}
+        # (where the message is named, the sender isn't read)
+        under[b"from"] = sender_of(source) if fields[0] == b"receive" and fields[least - 1] == b"" else junk(rng)
         placed = [fields[0], *(under[name] if counts else junk(rng) for name, counts in columns), *more]
         table.append(placed[: max(len(placed) - max(missing, 0), 1)])
     if spoils:
@@ -342,6 +365,22 @@ def spoil_stamps(rng, form, lists):
             fields.carried = spoilt
         elif len(fields) > 2 + form.width:
             fields[3 : 3 + form.width] = spoilt
+
+
+def spoil_what_is_told(rng, form, lists):
+    """Spoils the stamps that some records tell or don't tell, or by what they name their messages; or only changes it."""
+    some = [fields for records in lists for fields in records if len(fields) > 3 + form.width]
+    for fields in rng.sample(some, min(len(some), rng.choice((1, 2, 4)))):
+        how = rng.randrange(7)
+        if how == 0:
+            fields[3 : 3 + form.width] = [b""] * form.width
+        elif how == 1:
+            fields[3 + rng.randrange(form.width)] = rng.choice((b"", b"7"))
+        elif how == 2 and fields[0] in model.NAMED:
+            fields[3 + form.width] = b""
+        elif sender_of(fields):
+            fields.sender = rng.choice((b"", b"s" * 256, b"s" * 257)) if how < 6 else fields.sender
+            fields.carried = () if how > 4 else fields.carried
 
 
 def crowd(rng, form, nodes):
@@ -418,3 +457,19 @@ def cluster(rng, form, events, faults=True):
         last[node] = stamp
         lists[node].append([word, CLUSTER[node], b"%d" % reading, *stamp_fields(form, stamp), *message])
     return lists, planted, jump
+
+
+def bare(form, lists):
+    """The header and the records of each node of a cluster's log, as they are where a receive gets no stamp, and names no more of its message than
+    the node that sent it and the stamp that it carried."""
+    header = [b"kind", b"node", b"reading", *form.columns, *form.carried_columns, b"from"]
+    width = form.width
+    sends = {fields[-1]: fields for records in lists for fields in records if fields[0] == b"send"}
+
+    def told(fields):
+        sent = sends[fields[-1]] if fields[0] == b"receive" else None
+        if sent:
+            return [*fields[:3], *[b""] * width, *sent[3 : 3 + width], sent[1]]
+        return [*fields[: 3 + width], *[b""] * (width + 1)]
+
+    return header, [[told(fields) for fields in records] for records in lists]

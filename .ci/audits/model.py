@@ -128,17 +128,18 @@ class Form:
 
 
 class Event:
-    """What a record tells of, with the node by its place among the names, and its direct predecessors."""
+    """What a record tells of, with the node by its place among the names, and its direct predecessors. What it claims is None if the log tells
+    no stamp; its stamp is then the one that it is given."""
 
-    __slots__ = ("line", "kind", "node", "reading", "is_told", "stamp", "message", "carried", "label")
+    __slots__ = ("line", "kind", "node", "reading", "is_told", "claim", "stamp", "message", "sender", "carried", "label")
     __slots__ += ("before", "sent", "ticks", "floor", "least", "forcing")
 
-    def __init__(self, line, kind, node, reading, stamp, message, carried, label, tolerance):
-        self.line, self.kind, self.node, self.stamp, self.message, self.label = line, kind, node, stamp, message, label
-        self.carried = carried
+    def __init__(self, line, kind, node, reading, claim, message, sender, carried, label, tolerance):
+        self.line, self.kind, self.node, self.claim, self.stamp, self.label = line, kind, node, claim, claim, label
+        self.message, self.sender, self.carried = message, sender, carried
         # (if it isn't told what the clock read, that is taken as L, as far as a clock may read it; and if it is told, as far as it isn't known)
-        self.is_told = reading is not None
-        self.reading = max(1, min(reading, max(stamp[0], reading - tolerance)) if self.is_told else min(stamp[0], MOST_READING))
+        self.is_told, l = reading is not None, claim[0] if claim else 0
+        self.reading = max(1, min(reading, max(l, reading - tolerance)) if self.is_told else min(l, MOST_READING))
         self.before = self.sent = self.ticks = self.floor = self.forcing = self.least = None
 
     def keep(self, receives):
@@ -169,6 +170,9 @@ class Log:
         for event in self.events:
             event.keep(receives)
         self.order = self.causal_order()
+        for event in self.order:
+            if event.claim is None:
+                event.stamp = given_stamp(event)
         self.give_least_stamps()
 
     def take_header(self, line, fields):
@@ -178,8 +182,8 @@ class Log:
             raise Bad(line, "header")
 
     def in_place(self, line, fields):
-        """The fields of a record under a header, as they would stand without one, and those of what a receive's message carried; of a record of
-        no event, its fields as they are."""
+        """The fields of a record under a header, as they would stand without one, those of what a receive's message carried, and the node that it
+        names as the sender; of a record of no event, its fields as they are."""
         if fields[0] not in KINDS:
             return fields, ()
         if len(fields) != len(self.header):
@@ -190,47 +194,61 @@ class Log:
         message = [under.get(b"message", b"")] if fields[0] in NAMED else []
         label = [under[b"label"]] if under.get(b"label") else []
         carried = [under.get(name, b"") for name in self.form.carried_columns] if fields[0] == b"receive" else ()
-        return [fields[0], *(under.get(name, b"") for name in (b"node", b"reading", *self.form.columns)), *message, *label], carried
+        sender = under.get(b"from", b"") if message == [b""] and fields[0] == b"receive" else b""
+        return [fields[0], *(under.get(name, b"") for name in (b"node", b"reading", *self.form.columns)), *message, *label], carried, sender
 
-    def event(self, line, fields, carried):
-        """The event that a record tells of, with the fields of what its message carried."""
+    def event(self, line, fields, carried, sender=b""):
+        """The event that a record tells of, with the fields of what its message carried, and the sender that it names in place of the message."""
         if fields[0] not in KINDS:
             raise Bad(line, "word")
         named = fields[0] in NAMED
         least = 3 + self.form.width + named
         if len(fields) not in (least, least + 1):
             raise Bad(line, "fields")
-        reading, stamp = number(fields[2], MOST_READING), self.form.stamp(fields[3 : 3 + self.form.width])
-        if fields[2] and not reading or stamp is None:
+        of_stamp = fields[3 : 3 + self.form.width]
+        reading, stamp = number(fields[2], MOST_READING), self.form.stamp(of_stamp)
+        has_stamp = fields[0] != b"receive" or any(of_stamp)
+        if fields[2] and not reading or has_stamp and stamp is None:
             raise Bad(line, "number")
         if fields[0] == b"restart":
             reading = None
             if stamp[1] > MOST_FLOOR_C:
                 raise Bad(line, "number")
         brought = self.form.stamp(carried) if any(carried) else None
-        if any(carried) and (brought is None or brought[1] >= MOST_FLOOR_C):
+        if any(carried) and (brought is None or brought[1] >= MOST_FLOOR_C) or sender and brought is None:
             raise Bad(line, "number")
-        names = [fields[1], fields[least - 1]] if named else [fields[1]]
+        message = fields[least - 1] if named else None
+        names = [fields[1]]
+        if named and not self.is_nameless(fields[0], message):
+            names.append(message or sender)
         if not all(1 <= len(name) <= LONGEST_NAME for name in names):
             raise Bad(line, "name")
         if fields[1] not in self.nodes and len(self.nodes) == MOST_NODES:
             raise Bad(line, "node")
         node = self.nodes.setdefault(fields[1], len(self.nodes))
         label = fields[least] if len(fields) > least else None
-        return Event(line, fields[0], node, reading, stamp, names[1] if named else None, brought, label, self.tolerance)
+        return Event(line, fields[0], node, reading, stamp if has_stamp else None, message, sender, brought, label, self.tolerance)
+
+    def is_nameless(self, word, message):
+        """Whether a record is a send whose message has no name, as under a header with a column for the senders."""
+        return word == b"send" and message == b"" and self.header is not None and b"from" in self.header[1:]
 
     def link(self, unsent_local):
         """Finds each event's direct predecessors."""
-        last, sends = {}, {}
+        last, sends, first = {}, {}, {}
         for event in self.events:
             event.before, last[event.node] = last.get(event.node), event
             if event.kind == b"send":
                 if event.message in sends:
                     raise Bad(event.line, "sent-twice")
-                sends[event.message] = event
+                if event.message:
+                    sends[event.message] = event
+                first.setdefault((event.node, event.stamp), event)
         for event in self.events:
             if event.kind == b"receive":
-                event.sent = sends.get(event.message)
+                # (a node that no event has sends nothing)
+                by_node = first.get((self.nodes.get(event.sender), event.carried))
+                event.sent = by_node if event.sender else sends.get(event.message)
                 if event.sent is None and event.carried is not None:
                     event.kind = b"outside"
                 elif event.sent is None and not unsent_local:
@@ -286,6 +304,13 @@ def following(event, stamp):
     return (l, c + 1) if event.ticks else (l, c)
 
 
+def given_stamp(event):
+    """The stamp that an event is given whose own the log doesn't tell: what the clock rule gives after what was claimed, as far as there are
+    stamps."""
+    l, c = rule(event, seen)
+    return (l, c) if c <= FULL else min((l + 1, 0), (MOST_NUMBER, FULL))
+
+
 def seen(event, other):
     """The stamp of a direct predecessor as an event saw it: the claimed one, or of the send what its message carried, if the log tells that."""
     return event.carried if other is event.sent and event.carried is not None else other.stamp
@@ -302,6 +327,7 @@ def not_above(event, other):
 
 
 def verdict(event, full):
+    """The verdict on what an event claims."""
     if is_behind(event):
         return "behind"
     if any(not_above(event, other) for other in predecessors(event)):
@@ -320,17 +346,20 @@ def rolls_over(event, full):
 
 
 def causes(event, full):
-    """What its rows have after the node's name: the rules that were broken here. What the document leaves open: after a full C the rule gives
-    the next L."""
+    """What its rows have after the node's name: the rules that were broken here."""
+    broken = broken_by_claim(event, full) if event.claim else []
+    if event.sent and event.carried not in (None, event.sent.stamp):
+        broken.append(("carried", event.sent.line))
+    return broken
+
+
+def broken_by_claim(event, full):
+    """The rules that are broken by what an event claims. What the document leaves open: after a full C the rule gives the next L."""
     broken = [("behind",)] if is_behind(event) else []
     broken += [("not-above", other.line) for other in predecessors(event) if not_above(event, other)]
     l, c = rule(event, seen)
     given = (l, c) if c <= full else (l + 1, 0)
-    if not broken and event.stamp != given:
-        broken = [("ahead", *given)]
-    if event.sent and event.carried not in (None, event.sent.stamp):
-        broken.append(("carried", event.sent.line))
-    return broken
+    return [("ahead", *given)] if not broken and event.stamp != given else broken
 
 
 def chain(event):
@@ -342,15 +371,19 @@ def chain(event):
 
 
 def drift(events):
-    """The greatest drift of a node's events by the least stamps, the first event that has it, and the origin of that."""
-    ahead = max(map(drift_at, events))
-    first = next(event for event in events if drift_at(event) == ahead)
-    return ahead, first, chain(first)[0]
+    """What is told of the drift of a node's events by the least stamps: the greatest of those whose reading is told, the line of the first event
+    that has it, and that of its origin; or that there is none."""
+    told = [event for event in events if event.is_told]
+    if not told:
+        return ("none",)
+    ahead = max(map(drift_at, told))
+    first = next(event for event in told if drift_at(event) == ahead)
+    return ahead, first.line, chain(first)[0].line
 
 
 def drift_at(event):
-    """How far an event's least L is above its reading; not at all, if it is below it, as it may be where the clock isn't read."""
-    return max(event.least[0] - event.reading, 0)
+    """How far an event's least L is above its reading, if that is told; not at all, if it is below it, as it may be where the clock isn't read."""
+    return max(event.least[0] - event.reading, 0) if event.is_told else 0
 
 
 # The report
@@ -362,7 +395,7 @@ VERDICTS = ("behind", "not-above", "low", "least", "ahead", "carried")
 def report(log, unsent_local=False, limit=None):
     """The rows of the report."""
     names, full = [*log.nodes], log.form.full
-    counts = collections.Counter(verdict(event, full) for event in log.events)
+    counts = collections.Counter(verdict(event, full) for event in log.events if event.claim)
     yield from (row("count", word, counts[word]) for word in VERDICTS if counts[word])
     for event in log.events:
         yield from (row("cause", event.line, names[event.node], *found) for found in causes(event, full))
@@ -370,12 +403,11 @@ def report(log, unsent_local=False, limit=None):
     for event in log.events:
         of_nodes[event.node].append(event)
     for name, events in zip(names, of_nodes):
-        ahead, first, origin = drift(events)
-        yield row("node", name, len(events), ahead, first.line, origin.line)
+        yield row("node", name, len(events), *drift(events))
     sends = [event for event in log.events if event.kind == b"send"]
     receives = [event for event in log.events if event.kind == b"receive"]
-    times = collections.Counter(event.message for event in receives)
-    yield row("messages", len(sends), len(receives), sum(time > 1 for time in times.values()), sum(not times[send.message] for send in sends))
+    times = collections.Counter(event.sent for event in receives)
+    yield row("messages", len(sends), len(receives), sum(time > 1 for time in times.values()), sum(not times[send] for send in sends))
     yield from (row("skew", names[sender], names[receiver], *shown) for (receiver, sender), shown in sorted(skews(log).items()))
     if unsent_local:
         yield row("unsent", log.unsent)
@@ -385,6 +417,9 @@ def report(log, unsent_local=False, limit=None):
     unread = sum(not event.is_told for event in log.events)
     if unread:
         yield row("unread", unread)
+    unstamped = sum(event.claim is None for event in log.events)
+    if unstamped:
+        yield row("unstamped", unstamped)
     for name, events in zip(names, of_nodes):
         over = [event for event in events if limit is not None and claimed_ahead(event) > limit]
         if over:
@@ -393,12 +428,12 @@ def report(log, unsent_local=False, limit=None):
 
 
 def claimed_ahead(event):
-    """How far the L that an event claims is above its reading."""
-    return event.stamp[0] - event.reading
+    """How far the L that an event claims is above its reading; not at all, if either isn't told."""
+    return event.claim[0] - event.reading if event.claim and event.is_told else 0
 
 
 def way(event):
-    """The way on which the L that an event claims came, from where it was brought in."""
+    """The way on which the L that an event claims, or is given, came, from where it was brought in."""
     events = [event]
     while True:
         with_it = [other for other in predecessors(events[-1]) if other.stamp[0] == event.stamp[0]]
@@ -490,8 +525,7 @@ def influenced(log, at, line):
 
 
 def drift_of(log, at, name):
-    ahead, first, origin = drift(log.of_node(log.nodes[name]))
-    return "drift", name, ahead, first.line, origin.line
+    return "drift", name, *drift(log.of_node(log.nodes[name]))
 
 
 def claimed(log, at, line):
@@ -502,7 +536,8 @@ def told(log, at, line):
     event = at[line]
     label = () if event.label is None else (event.label,)
     name = [*log.nodes][event.node]
-    return "event", line, name, event.reading if event.is_told else b"", *event.stamp, *event.least, verdict(event, log.form.full), *label
+    word = verdict(event, log.form.full) if event.claim else "unstamped"
+    return "event", line, name, event.reading if event.is_told else b"", *event.stamp, *event.least, word, *label
 
 
 QUESTIONS = {

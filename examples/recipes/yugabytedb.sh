@@ -1,5 +1,6 @@
+echo kind,node,reading,stamp,from,carried
 sed -E '
-  s/^.* P ([^ ]+) .*: now=([0-9]+) ht=([0-9]+) op=/,\1,\2,\3,/
-  s/^,(.*),send msg=/send,\1,/
-  s/^,(.*),recv msg=/receive,\1,/
-  s/^,([^,]*,[^,]*,[^,]*),.*/local,\1/'
+  s/^.* P ([^ ]+) .*: now=([0-9]+) /,\1,\2,/
+  s/^,(.*),ht=([0-9]+) op=send$/send,\1,\2,,/
+  s/^,(.*),op=recv from=([^ ]+) propagated=([0-9]+)$/receive,\1,,\2,\3/
+  s/^,(.*),ht=([0-9]+) op=.*/local,\1,\2,,/'

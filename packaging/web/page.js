@@ -331,7 +331,9 @@ const REPORT = {
   messages: ['Messages', ['sent', 'received', 'repeated', 'open'], []],
   skew: ['Skews between clocks', ['from', 'to', 'ahead', 'send', 'receive'], [3, 4]],
   unsent: ['Unsent messages', ['taken as local'], []],
+  outside: ['Receives from outside', ['events'], []],
   unread: ['Events without a reading', ['events'], []],
+  unstamped: ['Receives without a stamp', ['events'], []],
   over: ['Claims over the limit', ['node', 'events', 'line', 'ahead', 'origin'], [2, 4]],
   chain: ['Chains', ['line', 'l', 'c', 'chain'], [0, 3]],
   check: ['Checks', ['line', 'chain?'], [0]],
@@ -343,10 +345,10 @@ const REPORT = {
   refused: ['Refused questions', ['why'], []],
 };
 
-// Whether a field is a line: one that the table says, one of a list that goes on, or what a cause isn't above.
+// Whether a field is a line: one that the table says, one of a list that goes on, or what a cause isn't above, or whose message it carried.
 function isLine(word, place, fields) {
   const [, heads, lines] = REPORT[word];
-  if (word === 'cause' && place === 3) return fields[2] === 'not-above';
+  if (word === 'cause' && place === 3) return ['not-above', 'carried'].includes(fields[2]);
   if (['chain', 'influenced', 'claimed'].includes(word) && place >= heads.length) return true;
   return lines.includes(place) && /^\d+$/.test(fields[place]);
 }

@@ -197,11 +197,11 @@ function ask(it) {
 
 // Which field of a record is its node, its key, its label. In a log with a header, that names the columns of an event.
 function placeOf(what, word, count, columns) {
-  if (columns && what !== 'key' && ['local', 'send', 'receive'].includes(word)) return columns.indexOf(what);
+  if (columns && what !== 'key' && ['local', 'send', 'receive', 'restart'].includes(word)) return columns.indexOf(what);
   const places = {
     node: { snapshot: 3, lose: -1, explain: -1, check: -1, relation: -1, influenced: -1, claimed: -1, event: -1 },
     key: { write: 3, erase: 3, send: 4, pull: 3, get: 2 },
-    label: { local: count - 1, send: count - 1, receive: count - 1 },
+    label: { local: count - 1, send: count - 1, receive: count - 1, restart: count - 1 },
   };
   return places[what][word] ?? (what === 'node' ? 1 : -1);
 }

@@ -329,7 +329,7 @@ module _ (t : ClockEvents) (pairs others : List Pair) (f : ℕ)
     follows = λ d direct. subst (λ (x : Pair). Follows (clock_event_at t f).ticks x p) (sym (same d direct)) (feasible.follows d direct);
   }
 
-  least_like : (p : Pair) → IsLeastFeasibleAt t pairs f p → IsLeastFeasibleAt t others f p
+  pub least_like : (p : Pair) → IsLeastFeasibleAt t pairs f p → IsLeastFeasibleAt t others f p
   least_like p least = record {
     feasible = feasible_like p least.feasible;
     least = λ q feasible. least.least q (feasible_back q feasible);

@@ -1,5 +1,6 @@
 pub mod CauseLaws
 pub mod Disorder
+pub mod Given
 pub mod LinksFound
 pub mod NextEvents
 pub mod OnTraces

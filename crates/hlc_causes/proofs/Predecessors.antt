@@ -214,7 +214,7 @@ module _ (t : ClockEvents) (claimed : List Pair) (f : ℕ) (exists : f < length 
       record { feasible = feasible_if_next floor next; least = λ q feasible. feasible.not_below }
 
   -- the rule's pair, by what the rule looks at
-  rule_pair_where : (o : Option Pair) → before ≡ o → IsLeastFeasibleAt t claimed f (rule_pair ticks o floor)
+  pub rule_pair_where : (o : Option Pair) → before ≡ o → IsLeastFeasibleAt t claimed f (rule_pair ticks o floor)
   rule_pair_where None is = rule_first is
   rule_pair_where (Some p) is =
       elim (cases_Bool (is_le (stamp_cmp floor p))) [

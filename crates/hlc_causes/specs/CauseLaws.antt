@@ -1,11 +1,11 @@
 -- The laws of causes, over any events as a clock rule reads them, and any claimed stamps.
-use Rattle.std.specs.Prelude.{◌≡◌, ◌≢◌, ◌↔◌, ◌⊎◌, ℕ, ◌<◌, ◌≤◌, List, [], length}
+use Rattle.std.specs.Prelude.{◌≡◌, ◌≢◌, ◌↔◌, ◌⊎◌, ℕ, ◌^◌, ◌<◌, ◌≤◌, List, [], length}
 use Rattle.hlc_stamp.specs.declared.id.EventId.{EventId}
 use Rattle.hlc_stamp.specs.Order.{Pair}
 use Rattle.hlc_causality.specs.Assignment.{pair_at}
 use Rattle.hlc_causality.specs.Causality.{HappenedBefore}
 use Rattle.hlc_causality.specs.ClockEvents.{ClockEvents, clock_skeleton, ticking}
-use Rattle.hlc_causality.specs.Feasible.{IsLeastFeasible, IsLeastFeasibleAt}
+use Rattle.hlc_causality.specs.Feasible.{IsFeasibleAt, IsLeastFeasible, IsLeastFeasibleAt}
 use Rattle.hlc_causality.specs.Past.{IsInPast}
 use Rattle.hlc_verdict.specs.declared.claim.Claim.{Claim}
 use Rattle.hlc_verdict.specs.declared.verdict.Verdict.TheVariants.{Behind as BehindVerdict, Least, Low, NotAbove as NotAboveVerdict}
@@ -16,6 +16,7 @@ use Rattle.hlc_causes.specs.declared.answers.Cause.{Cause}
 use Rattle.hlc_causes.specs.declared.answers.Cause.TheVariants.{Ahead, Behind, NotAbovePrevious, NotAboveSend}
 use Rattle.hlc_causes.specs.declared.answers.Causes.{Causes}
 use Rattle.hlc_causes.specs.Causes.{NamesCauses, BreaksRule, IsAheadOf, RollsOver, IsCause, IsFirstOf, KeepsRule, top_at}
+use Rattle.hlc_causes.specs.Given.{IsStamp, given_at}
 use Rattle.hlc_causes.specs.Rule.{next_l}
 use Rattle.hlc_causes.specs.Verdicts.{verdict_on}
 
@@ -94,3 +95,8 @@ VerdictsAreThoseOfTraces = (claims : List Claim) (least : List Pair) (f : ℕ) �
 -- if there is no event, the stamps are the least feasible assignment
 abbrev pub NoEventsAreLeast : Type 0
 NoEventsAreLeast = (t : ClockEvents) (stamps : List Pair) → t ≡ [] → stamps ≡ [] → IsLeastFeasible t stamps
+
+-- a stamp that is given by the clock rule is no cause, if any stamp is feasible there
+abbrev pub GivenIsNoCause : Type 0
+GivenIsNoCause = (t : ClockEvents) (claimed : List Pair) (full f : ℕ) (any : Pair) → f < length t → full < 2 ^ 32 →
+    IsFeasibleAt t claimed f any → IsStamp any → pair_at claimed f ≡ given_at t claimed f → ¬ IsCause t claimed full f

@@ -1,6 +1,7 @@
 // What is answered of a claimed stamp.
 
-ghost use Rattle.hlc_causes.specs.Causes.{HasCause, NamesFirst};
+ghost use Rattle.std.specs.Prelude.{◌≡◌};
+ghost use Rattle.hlc_causes.specs.Causes.{HasCause, NamesFirst, no_causes};
 
 use hlc_stamp::{EventId, Stamp};
 use hlc_verdict::Verdict;
@@ -32,6 +33,18 @@ pub struct Causes {
 }
 
 impl Causes {
+    /// None of them.
+    pub fn none() -> Causes
+        ensures { result ≡ no_causes }
+    {
+        Causes {
+            behind: false,
+            not_above_previous: None,
+            not_above_send: None,
+            ahead: None,
+        }
+    }
+
     /// The first of them, in the order of `Cause`.
     pub fn first(&self) -> Option<Cause>
         ensures { NamesFirst (HasCause self.now) result }

@@ -106,7 +106,7 @@ fn least_written(ticks: bool, before: Option<Stamp>, floor: Stamp, top: u32) -> 
 }
 
 // Whether the least stamp that may come directly after another one has a `c` up to `top`.
-fn leaves_room(ticks: bool, before: Stamp, top: u32) -> bool
+pub(crate) fn leaves_room(ticks: bool, before: Stamp, top: u32) -> bool
     ensures { IsTrue result ↔ ((next_pair ticks before).c ≤ top) }
 {
     if ticks {
@@ -117,7 +117,7 @@ fn leaves_room(ticks: bool, before: Stamp, top: u32) -> bool
 }
 
 // The stamp with the next `l`, and a `c` of 0.
-fn next_l(stamp: Stamp) -> Stamp
+pub(crate) fn next_l(stamp: Stamp) -> Stamp
     requires { stamp.l < 2 ^ 64 - 1 }
     ensures { result ≡ next_l stamp }
 {

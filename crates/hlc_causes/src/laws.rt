@@ -4,7 +4,7 @@
 //! A cause looks at the claimed stamps of an event and of its direct predecessors alone; the laws say what causes and rollovers
 //! stamps tell of the whole log.
 
-ghost use Rattle.hlc_causes.specs.CauseLaws.{AheadIsAlone, AheadNamesTheRulesStamp, BehindIsCause, CausesAreNamed, CausesAreUnique, CausesBreakTheRule, CausesExplainVerdicts, LowHeardOfDisorder, LowIsCauseIfAhead, NoCauseIsLeast, NoCauseKeepsRule, NoEventsAreLeast, NotAboveIsCause, VerdictsAreThoseOfTraces};
+ghost use Rattle.hlc_causes.specs.CauseLaws.{AheadIsAlone, AheadNamesTheRulesStamp, BehindIsCause, CausesAreNamed, CausesAreUnique, CausesBreakTheRule, CausesExplainVerdicts, GivenIsNoCause, LowHeardOfDisorder, LowIsCauseIfAhead, NoCauseIsLeast, NoCauseKeepsRule, NoEventsAreLeast, NotAboveIsCause, VerdictsAreThoseOfTraces};
 
 /// Each event has one answer: the rules that it breaks. It breaks none exactly if its claimed stamp is the least that can be written
 /// there. And the causes are just the events whose claimed stamp is neither a rollover nor the least that isn't below the floor and is
@@ -50,6 +50,12 @@ pub fn disorder_is_its_own_cause()
 pub fn low_is_cause_if_ahead()
     ensures cause { LowIsCauseIfAhead }
     ensures heard { LowHeardOfDisorder }
+{}
+
+/// A stamp that `stamp_given` gives is no cause, if any stamp may stand there: one that isn't below the floor, and may come directly after
+/// those claimed before it.
+pub fn given_is_no_cause()
+    ensures { GivenIsNoCause }
 {}
 
 /// The verdicts are those of `hlc_verdict` on a trace with these events and these stamps, if each event ticks.

@@ -16,6 +16,7 @@
 //!   each event ticks.
 //! - `causes_at` says which rules were broken at an event itself: its `Causes`, each a `Cause`, and the `first` of them.
 //! - `rolls_over` says whether the stamp rolls over, and `finding` gives the verdict, or says so: a `Finding`.
+//! - `stamp_given` gives an event of which no stamp is told the one of the clock rule, after the stamps claimed just before it.
 //! - `laws` says that causes and rollovers explain every verdict, and what else the answers tell.
 //!
 //! It reads no log and finds no order of events: an `Execution` has them in an order in which each send comes before its
@@ -45,6 +46,7 @@ mod answers;
 mod causes;
 mod claims;
 mod direct;
+mod giving;
 mod judging;
 pub mod laws;
 mod pushing;
@@ -53,6 +55,7 @@ mod seen;
 pub use answers::{Cause, Causes, Finding};
 pub use causes::{causes_at, rolls_over};
 pub use claims::Claims;
+pub use giving::stamp_given;
 pub use judging::{finding, verdict};
 pub use pushing::push_least;
 pub use seen::Seen;

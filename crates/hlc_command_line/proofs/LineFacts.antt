@@ -1,11 +1,11 @@
 -- The command line of `hlc`, if clap finds no fault in its arguments.
-use Rattle.std.proofs.Common.{◌≡◌, ◌∙◌, None, ◌&&◌, sym, subst, Bool, true, false, not, List, [], ◌∷◌, ◌++◌, Option, Some, refl, is_some, map, lit≤, ⊎_elim}
+use Rattle.std.proofs.Common.{◌≡◌, ◌∙◌, ap, None, ◌&&◌, sym, subst, Bool, true, false, not, List, [], ◌∷◌, ◌++◌, Option, Some, refl, is_some, map, lit≤, ⊎_elim}
 use Rattle.std.specs.Prelude.{◌≢◌, ◌↔◌, ℕ, Box, Err, IfErr, IfSome, IsSome, Ok, OnOk, Result, codes, find, option_map}
 use Rattle.std.specs.Box.{box_value}
 use Rattle.std.specs.List.{AllByRecursion}
 use Rattle.clap.specs.Kinds.{check_kinds}
 use Rattle.clap.specs.Faults.{defaults_fault, entered_fault, fault_of, is_simple_and_free, settle_fault, walk_fault}
-use Rattle.clap.specs.Simple.{Shape, argument_words, built, built_leaf, entered, help_shape, is_simple, label_of, names_of, subcommand_of, subcommand_rows, subcommand_rows_of}
+use Rattle.clap.specs.Simple.{App, Shape, argument_words, built, built_leaf, entered, help_shape, is_simple, label_of, names_of, subcommand_of, subcommand_rows, subcommand_rows_of}
 use Rattle.clap.specs.Matches.{found_of, subcommand_name_of}
 use Rattle.clap.specs.declared.parser.matches.ArgMatches.{ArgMatches}
 use Rattle.clap.specs.declared.parser.matches.ArgMatches.TheViews.{out-ArgMatches, out-SubCommand}
@@ -34,6 +34,15 @@ line_is_simple = refl
 pub line_is_free : is_simple_and_free line_app ≡ true
 unfolding clap_on_literals
 line_is_free = refl
+
+-- what clap says by what it was told, if that is the command `hlc`
+module _ (told : App) (arguments : List Text) (same : told ≡ line_app) where
+  pub none_wrong : (is_simple_and_free told ≡ true → fault_of told arguments ≡ []) → fault_of line_app arguments ≡ []
+  none_wrong none = ap (λ (a : App). fault_of a arguments) (sym same) ∙ none (ap is_simple_and_free same ∙ line_is_free)
+
+  pub found_rows : {X : Type 0} (rows : Option (Text × List Row)) → (is_simple told ≡ true → X × (rows ≡ subcommand_of told arguments))
+      → rows ≡ subcommand_of line_app arguments
+  found_rows rows found = (found (ap is_simple same ∙ line_is_simple)).1 ∙ ap (λ (a : App). subcommand_of a arguments) same
 
 line_subcommands : (built line_app).subs ≡ map shape_of subcommands ++ built_leaf help_shape ∷ []
 line_subcommands = refl

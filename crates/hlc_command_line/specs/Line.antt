@@ -204,14 +204,6 @@ subcommand_named named.DrawLog = subcommand_draw_log
 subcommand_named named.Storm = subcommand_storm
 subcommand_named named.Threads = subcommand_threads
 
--- a command with the subcommand of this name as well
-abbrev pub with_one : App → SubcommandName → App
-with_one a name = with_subcommand a (app_of_subcommand (subcommand_named name)).top
-
--- the same of several names
-abbrev pub with_subcommands_of : List SubcommandName → App → App
-with_subcommands_of names a = fold with_one a names
-
 -- the settings are the values of the options, and have a limit if one is given
 pub record AreSettings (rows : List Row) (settings : Settings) : Type 0 where
   pub nodes_is : IsNumberOf rows nodes settings.nodes

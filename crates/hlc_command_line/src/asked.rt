@@ -17,10 +17,10 @@ fn questions(alloc: Global, values: &[&str]) -> Result<Vec<LogQuestion>, LineFau
 {
     let mut asked = Vec::new(alloc);
     for value in values {
+        asked.reserve(1)?;
         let Some(question) = question_of(alloc, value.as_bytes())? else {
             return Err(LineFault::Question);
         };
-        asked.reserve(1)?;
         asked.push_reserved(question);
     }
     Ok(asked)

@@ -98,10 +98,11 @@ A record of a log is a row of CSV, which claims one event with its stamp (L, C):
   send,NODE,READING,L,C,MESSAGE[,LABEL]      the same, and the message MESSAGE goes out
   receive,NODE,READING,L,C,MESSAGE[,LABEL]   the message MESSAGE comes in
   restart,NODE,READING,L,C[,LABEL]           NODE came back with its clock restored to (L, C), a bound that it had kept
-Nodes and messages have names, and READING may be empty. The events of a node stand as they happened, so the logs of several
-nodes may follow one another. With `--packed B` or `--dotted`, L and C are one field. If the first record begins with `kind`, it
-names the columns: `node`, `reading`, `l` and `c` or `stamp`, `message` and `label`. There a receive may also tell the stamp that its
-message carried, in `carried_l` and `carried_c`, or `carried`; then no record need send the message. With `--tolerance D` a reading
+Nodes and messages have names, READING may be empty, and so may L and C of a receive. The events of a node stand as they happened, so the
+logs of several nodes may follow one another. With `--packed B` or `--dotted`, L and C are one field. If the first record begins with `kind`,
+it names the columns: `node`, `reading`, `l` and `c` or `stamp`, `message` and `label`. There a receive may also tell the stamp that its
+message carried, in `carried_l` and `carried_c`, or `carried`; then no record need send the message. It may name the node that sent, in
+`from`, in place of the message, and a send may then leave `message` empty. With `--tolerance D` a reading
 above L by at most D is taken as L, and one farther above as D less. With `--receives merge` a clock that receives takes the greater of
 its stamp and the message's, and isn't read; with `merge-clock` it is read as well. The answer has these rows, with lines counted from 1:
   count,VERDICT,N                    so many events have a verdict, by the words of `hlc judge`, or `carried`: ahead of a full C
@@ -110,12 +111,13 @@ its stamp and the message's, and isn't read; with `merge-clock` it is read as we
   cause,LINE,NODE,ahead,L,C          it did: (L, C) was enough to be above the stamps directly before
   cause,LINE,NODE,carried,SEND       the message carried another stamp than its send, on line SEND, claims
   node,NODE,EVENTS,AHEAD,LINE,ORIGIN how far the least stamps ran ahead of its clock, the first line where,
-                                     and the line of the origin
+                                     and the line of the origin; or `none`, if no reading of it is told
   messages,SENT,RECEIVED,REPEATED,OPEN
   skew,FROM,TO,AHEAD,SEND,RECEIVE    how far a send of FROM read ahead of its receive by TO at most, and their lines
   unsent,N                           with `--unsent local`, so many receives were taken as local events
   outside,N                          so many receives tell what was carried by a message that no record sends, if there are some
   unread,N                           so many events have no reading, if there are some
+  unstamped,N                        so many receives have no stamp, if there are some
   over,NODE,N,LINE,AHEAD,ORIGIN      with `--limit D`, N events claim an L more than D above their reading: the first line of them, and
                                      how far the furthest is ahead, and the line where that L came in
 If the input is no log, the answer is the one row `bad,LINE,WHY`, and the status is 4.

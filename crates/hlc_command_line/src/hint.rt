@@ -12,7 +12,7 @@ use clap::error::ErrorKind;
 use std::fmt;
 
 /// What else the user is told of arguments that clap refuses.
-#[derive(Clone, Copy, Debug, PartialEq, Eq)]
+#[derive(Clone, Copy)]
 pub enum Hint {
     /// An option takes whole numbers between these two.
     Range {
@@ -178,20 +178,16 @@ fn named(word: &str) -> Option<(SubcommandName, SubcommandRule)> {
 pub fn hint_for(arguments: &[&str], error: &ClapError) -> Option<Hint>
     ensures { IsSome result → (kind_of error.now ≡ ErrorKind.ValueValidation) ⊎ (kind_of error.now ≡ ErrorKind.UnknownArgument) }
 {
-    let kind = error.kind();
     let [_, command, words @ ..] = arguments else {
         return None;
     };
     let (name, rule) = named(command)?;
-    if kind == ErrorKind::ValueValidation {
-        range_hint(words, rule.options)
-    } else if kind == ErrorKind::UnknownArgument
-        && reads_input(name)
-        && has_stray_word(words, rule.options)
-    {
-        Some(Hint::Input { command: rule.name })
-    } else {
-        None
+    match error.kind() {
+        ErrorKind::ValueValidation => range_hint(words, rule.options),
+        ErrorKind::UnknownArgument if reads_input(name) && has_stray_word(words, rule.options) => {
+            Some(Hint::Input { command: rule.name })
+        }
+        _ => None,
     }
 }
 

@@ -124,17 +124,7 @@ fn is_turned(order: &Order) -> bool
             part: HistoryPart::Events { from, to, .. },
             ..
         } => is_above(*from, *to),
-        Order::Draw {
-            part: HistoryPart::Chain { .. },
-            ..
-        }
-        | Order::Run(_)
-        | Order::Trace { .. }
-        | Order::Judge
-        | Order::Audit { .. }
-        | Order::DrawLog(_)
-        | Order::Storm { .. }
-        | Order::Threads { .. } => false,
+        _ => false,
     }
 }
 
@@ -149,8 +139,10 @@ fn matched(alloc: Global, arguments: &[&str]) -> Result<Order, LineFault>
     };
     match command.try_get_matches_from(arguments) {
         Ok(matches) => entered(alloc, &matches),
-        Err(e) if e.kind() == ErrorKind::OutOfMemory => Err(LineFault::Memory),
-        Err(e) => Err(LineFault::Line(e)),
+        Err(e) => match e.kind() {
+            ErrorKind::OutOfMemory => Err(LineFault::Memory),
+            _ => Err(LineFault::Line(e)),
+        },
     }
 }
 

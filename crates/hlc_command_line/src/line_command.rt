@@ -1,16 +1,38 @@
 // How the command line is told to clap.
 
-ghost use Rattle.std.specs.Prelude.{IfOk, false, ◌≡◌};
-ghost use Rattle.clap.specs.Words.{app_of, new_app, rule_of};
+ghost use Rattle.std.specs.Prelude.{IfOk, Some, false, map, ◌≡◌};
+ghost use Rattle.std.specs.List.{AllByRecursion};
+ghost use Rattle.clap.specs.Words.{Text, app_of, new_app, rule_of};
 ghost use Rattle.hlc_command_line.specs.Subcommand.{IsCommand, app_of_subcommand};
-ghost use Rattle.hlc_command_line.specs.Rules.{program_app, rule_of_option, with_options_of};
-ghost use Rattle.hlc_command_line.specs.Line.{line_app, subcommand_named, with_subcommands_of};
+ghost use Rattle.hlc_command_line.specs.Rules.{program_app, rule_of_option, rule_taking};
+ghost use Rattle.hlc_command_line.specs.Line.{line_app, subcommand_named};
 
 use crate::help;
 use crate::option_rule::{OptionRule, Takes};
-use crate::subcommand_rule::{SUBCOMMANDS, SubcommandName, SubcommandRule, subcommand_rule};
+use crate::subcommand_rule::{SUBCOMMANDS, SubcommandName, subcommand_rule};
 use clap::{Arg, ArgAction, Command};
 use std::alloc::{AllocError, Global};
+
+// What is done where an option that takes this is given.
+fn action_of(takes: Takes) -> ArgAction
+    ensures { (name : Text) → (rule_taking name takes).action ≡ Some result }
+{
+    match takes {
+        Takes::Nothing => ArgAction::SetTrue,
+        Takes::One { .. } => ArgAction::Set,
+        Takes::Many { .. } => ArgAction::Append,
+    }
+}
+
+// Whether an option that takes this is required.
+fn is_required(takes: Takes) -> bool
+    ensures { (name : Text) → (rule_taking name takes).required ≡ result }
+{
+    match takes {
+        Takes::One { required, .. } => required,
+        _ => false,
+    }
+}
 
 // The option of a rule.
 fn argument<'a>(alloc: Global, option: &OptionRule) -> Arg<'a>
@@ -19,47 +41,41 @@ fn argument<'a>(alloc: Global, option: &OptionRule) -> Arg<'a>
 {
     let argument = Arg::new(alloc, option.name)
         .long(option.name)
-        .help(option.text);
+        .help(option.text)
+        .required(is_required(option.takes))
+        .action(action_of(option.takes));
     match option.takes {
-        Takes::Nothing => argument.action(ArgAction::SetTrue),
-        Takes::One {
-            value,
-            parser,
-            required,
-        } => argument
-            .value_name(value)
-            .required(required)
-            .action(ArgAction::Set)
-            .value_parser(parser),
-        Takes::Many { value, parser } => argument
-            .value_name(value)
-            .action(ArgAction::Append)
-            .value_parser(parser),
+        Takes::Nothing => argument,
+        Takes::One { value, parser, .. } | Takes::Many { value, parser } => {
+            argument.value_name(value).value_parser(parser)
+        }
     }
 }
 
-// The subcommand of a rule, without its options.
-fn bare_subcommand<'a>(alloc: Global, rule: &SubcommandRule) -> Command<'a>
-    ensures { IsCommand result (new_app rule.now.name.now) }
-{
-    Command::new(alloc, rule.name)
-        .about(rule.about)
-        .after_help(rule.after_help)
-}
-
-// A command with the options of these rules as well.
-fn with_options<'a>(
+// A command with its texts, and nothing else.
+fn bare_command<'a>(
     alloc: Global,
-    mut command: Command<'a>,
-    rules: &[OptionRule],
-) -> Result<Command<'a>, AllocError>
-    requires { IsCommand command (app_of command) }
-    ensures { IfOk result (λ c. IsCommand c (with_options_of rules.now (app_of command.entry))) }
+    name: &'static str,
+    about: &'static str,
+    after_help: &'static str,
+) -> Command<'a>
+    ensures { IsCommand result (new_app name.now) }
 {
+    Command::new(alloc, name)
+        .about(about)
+        .after_help(after_help)
+}
+
+// The options of these rules.
+fn arguments<'a>(alloc: Global, rules: &[OptionRule]) -> Result<Vec<Arg<'a>>, AllocError>
+    ensures rules { IfOk result (λ made. map rule_of made.items ≡ map rule_of_option rules.now) }
+    ensures local { IfOk result (λ made. AllByRecursion (λ a. a.global ≡ false) made.items) }
+{
+    let mut made = Vec::new(alloc);
     for rule in rules {
-        command = command.arg(argument(alloc, rule))?;
+        made.push(argument(alloc, rule))?;
     }
-    Ok(command)
+    Ok(made)
 }
 
 // The subcommand of this name.
@@ -67,41 +83,40 @@ fn subcommand_of<'a>(alloc: Global, name: SubcommandName) -> Result<Command<'a>,
     ensures { IfOk result (λ c. IsCommand c (app_of_subcommand (subcommand_named name))) }
 {
     let rule = subcommand_rule(name);
-    with_options(alloc, bare_subcommand(alloc, &rule), rule.options)
+    let options = arguments(alloc, rule.options)?;
+    bare_command(alloc, rule.name, rule.about, rule.after_help).args(options)
 }
 
-// A command with the subcommands of these names as well.
-fn with_subcommands<'a>(
+// The subcommands of these names.
+fn subcommands_of<'a>(
     alloc: Global,
-    mut command: Command<'a>,
     names: &[SubcommandName],
-) -> Result<Command<'a>, AllocError>
-    requires { IsCommand command (app_of command) }
-    ensures { IfOk result (λ c. IsCommand c (with_subcommands_of names.now (app_of command.entry))) }
+) -> Result<Vec<Command<'a>>, AllocError>
+    ensures told { IfOk result (λ made. map app_of made.items ≡ map (λ name. app_of_subcommand (subcommand_named name)) names.now) }
+    ensures local { IfOk result (λ made. AllByRecursion (λ c. IsCommand c (app_of c)) made.items) }
 {
+    let mut made = Vec::new(alloc);
     for name in names {
-        let added = subcommand_of(alloc, *name)?;
-        command = command.subcommand(added)?;
+        made.push(subcommand_of(alloc, *name)?)?;
     }
-    Ok(command)
+    Ok(made)
 }
 
 // The command `hlc` without its subcommands.
-fn program_command<'a>(alloc: Global) -> Result<Command<'a>, AllocError>
-    ensures { IfOk result (λ c. IsCommand c program_app) }
+fn program_command<'a>(alloc: Global) -> Command<'a>
+    ensures { IsCommand result program_app }
 {
-    Command::new(alloc, "hlc")
-        .about(help::ABOUT)
-        .after_help(help::FIRST_STEPS)
+    bare_command(alloc, "hlc", help::ABOUT, help::FIRST_STEPS)
         .version(help::VERSION)
         .subcommand_required(true)
-        .bin_name("hlc")
 }
 
 // The command `hlc` with its subcommands.
 pub(crate) fn line_command<'a>(alloc: Global) -> Result<Command<'a>, AllocError>
     ensures { IfOk result (λ c. IsCommand c line_app) }
 {
-    let command = program_command(alloc)?;
-    with_subcommands(alloc, command, &SUBCOMMANDS)
+    let subcommands = subcommands_of(alloc, &SUBCOMMANDS)?;
+    program_command(alloc)
+        .subcommands(subcommands)?
+        .bin_name("hlc")
 }

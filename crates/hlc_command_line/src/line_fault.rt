@@ -6,7 +6,7 @@ use std::fmt;
 use thiserror::Error;
 
 /// Why options say of no part of a history or a log that it is to be drawn.
-#[derive(Clone, Copy, Debug, PartialEq, Eq, Error)]
+#[derive(Clone, Copy, Debug, Error)]
 pub enum PartMistake {
     /// It is said how many rows about an event are to be drawn, but not about which one.
     RowsAlone,
@@ -66,14 +66,14 @@ impl fmt::Display for LineFault {
 
     fn fmt<W: fmt::Write>(&self, f: &mut fmt::Formatter<W>) -> fmt::Result {
         match self {
-            LineFault::Line(error) => write!(f, "{error}"),
+            LineFault::Line(error) => fmt::Display::fmt(error, f),
             LineFault::Range => f.write_str("--from is above --to"),
             LineFault::Forms => f.write_str("--packed and --dotted are two forms of stamps"),
             LineFault::Unsent => f.write_str("--unsent takes only the word `local`"),
             LineFault::Receives => f.write_str("--receives takes `tick`, `merge` or `merge-clock`"),
             LineFault::Sign(option) => write!(f, "--{option} takes a whole number without a sign"),
             LineFault::Question => f.write_str("--ask takes a question of a log"),
-            LineFault::Part(mistake) => write!(f, "{mistake}"),
+            LineFault::Part(mistake) => fmt::Display::fmt(mistake, f),
             LineFault::Memory => f.write_str("out of memory"),
         }
     }

@@ -2,7 +2,7 @@ use hlc_log_text::{LogQuestion, LogRules};
 use hlc_stamp::{EventId, Settings};
 
 /// How a log is read and audited.
-#[derive(Clone, Copy, Debug, PartialEq, Eq)]
+#[derive(Clone, Copy, Debug)]
 pub struct AuditOptions {
     /// How its records are read.
     pub records: LogRules,
@@ -20,7 +20,7 @@ pub struct AuditOptions {
 pub const USUAL_ROWS: u32 = 40;
 
 /// Which rows of a log are drawn. Events are named by their lines.
-#[derive(Clone, Copy, Debug, PartialEq, Eq)]
+#[derive(Clone, Copy, Debug)]
 pub enum LogRows {
     /// Those from one event to another.
     Between {
@@ -39,7 +39,7 @@ pub enum LogRows {
 }
 
 /// What of a log is drawn. Events are named by their lines.
-#[derive(Clone, Copy, Debug, PartialEq, Eq)]
+#[derive(Clone, Copy, Debug)]
 pub enum LogPart {
     /// Some of its rows.
     Rows {
@@ -56,7 +56,7 @@ pub enum LogPart {
 }
 
 /// How a log is read, and what of it is drawn.
-#[derive(Clone, Copy, Debug, PartialEq, Eq)]
+#[derive(Clone, Copy, Debug)]
 pub struct DrawLogOptions {
     /// How its records are read.
     pub records: LogRules,
@@ -67,7 +67,7 @@ pub struct DrawLogOptions {
 }
 
 /// What of a history is drawn.
-#[derive(Clone, Copy, Debug, PartialEq, Eq)]
+#[derive(Clone, Copy, Debug)]
 pub enum HistoryPart {
     /// Its events from one to another.
     Events {

@@ -1,7 +1,7 @@
 -- A log that was read from the rows of a history has the history's events.
-use Rattle.std.proofs.Common.{◌≡◌, ◌∙◌, true, ℕ, ◌^◌, ◌<◌, List, Option, Some, None, arith, decimal, length, refl, sym, ap, subst, take}
-use Rattle.std.specs.Prelude.{option_map, slice_index_or}
-use Rattle.std.proofs.lemmas.Fmt.{decimal_injective}
+use Rattle.std.proofs.Common.{◌≡◌, ◌≢◌, ◌∙◌, true, ℕ, ◌^◌, ◌<◌, List, [], Option, Some, None, arith, decimal, length, refl, sym, ap, subst, take}
+use Rattle.std.specs.Prelude.{All, IfSome, option_map, slice_index_or}
+use Rattle.std.proofs.lemmas.Fmt.{decimal_injective, decimal_nonempty}
 use Rattle.std.proofs.lemmas.List.{get_or-map, length-map, length-take}
 use Rattle.hlc_causality.specs.Causality.{IsEarlierAtNode, IsSendOf, SkeletonEvent, skeleton_at}
 use Rattle.hlc_causality.specs.declared.receives.Receives.{Receives}
@@ -16,10 +16,12 @@ use Rattle.hlc_log.specs.declared.log_event.LogKind.TheVariants as kind
 use Rattle.hlc_log.specs.CausalOrder.{IsEarlierOf}
 use Rattle.hlc_log.specs.Events.{IsMessageBelow, event_at, no_event, own_rule, rule_by}
 use Rattle.hlc_log.specs.Messages.{AreMessagesSound, EachIsSentOnce, Receives as ReceivesMessage, ReceivesUnsent, Sends, SendsTo}
-use Rattle.hlc_log_text.specs.LogText.{IsLogOf, IsNamed, kind_message, kind_word, message_names, name_of, with_names}
+use Rattle.hlc_log_text.specs.Laws.{HasNamedMessage}
+use Rattle.hlc_log_text.specs.LogText.{IsLogOf, IsNamed, IsRawLogOf, kind_message, kind_word, message_names, name_of, with_names}
 use Rattle.hlc_log_text.specs.Names.{EachNameOnce}
-use Rattle.hlc_log_text.specs.NamedEvent.{NamedEvent, without_label}
+use Rattle.hlc_log_text.specs.NamedEvent.{NamedEvent, without_asides}
 use Rattle.hlc_log_text.specs.declared.log_text.LogText.{LogText}
+use Rattle.hlc_log_text.proofs.NamedLogs.{is_as_read}
 use Rattle.hlc_history_log.specs.Laws.{TellHistory, log_kind}
 use Rattle.hlc_history_log.specs.LogRows.{message_of}
 use Rattle.hlc_history_log.proofs.Names.{mentions_once, same_number}
@@ -30,6 +32,7 @@ pub record IsHistoryLog (events : List StampedEvent) (log : List LogEvent) : Typ
   pub reading : (e : ℕ) → e < length events → (event_at log e).reading ≡ (history_event_at events e).reading
   pub has_reading : (e : ℕ) → e < length events → (event_at log e).has_reading ≡ true
   pub stamp : (e : ℕ) → e < length events → (event_at log e).stamp ≡ stamp_at events e
+  pub has_stamp : (e : ℕ) → e < length events → (event_at log e).has_stamp ≡ true
   pub carried : (e : ℕ) → e < length events → (event_at log e).carried ≡ None
   pub no_rule : (receives : Receives) (e : ℕ) → e < length events → own_rule receives (event_at log e) ≡ None
   pub to_earlier : (d e : ℕ) → IsEarlierOf log d e → IsEarlierAtNode (causality_of events) d e
@@ -57,12 +60,13 @@ restart_is_no_send m is = cc is
 restart_is_no_receive : (m : MessageId) → kind_word kind.Restart ≡ kind_word (kind.Receive m) → ⊥
 restart_is_no_receive m is = cc is
 
--- the event at e is told of so, but for its label
+-- the event at e is told of so, but for what is kept aside
 record HasTold (events : List StampedEvent) (e : ℕ) (told : NamedEvent) : Type 0 where
   word : told.head.word ≡ kind_word (log_kind e (history_event_at events e).kind)
   reading : told.head.reading ≡ (history_event_at events e).reading
   has_reading : told.head.has_reading ≡ true
   stamp : told.head.stamp ≡ stamp_at events e
+  has_stamp : told.head.has_stamp ≡ true
   node : told.node ≡ decimal (history_event_at events e).node
   message : told.message ≡ option_map decimal (message_of e (history_event_at events e).kind)
   carried : told.carried ≡ None
@@ -158,8 +162,38 @@ module _ (h : History) (well : IsWellFormed h) (told : List NamedEvent) (text : 
   abbrev no_name : NamedEvent
   no_name = with_names text.nodes messages no_event
 
+  small : (e : ℕ) → e < length h.events → e < 2 ^ 64
+  small e lt = let a = well.within_capacity in let b = well.small_capacity in omega arith
+
+  -- each message has a name, so none had to be told apart
+  number_named : (e m : ℕ) (k : EventKind) → e < length h.events → (history_event_at h.events e).kind ≡ k → message_of e k ≡ Some m → m < 2 ^ 64
+  number_named e m (Written key value) lt is message = absurd (cc message)
+  number_named e m (Erased key) lt is message = absurd (cc message)
+  number_named e m (Sent to write) lt is message = let same : e ≡ m = cc message in let here = small e lt in omega arith
+  number_named e m (Synced to writes) lt is message = let same : e ≡ m = cc message in let here = small e lt in omega arith
+  number_named e m (Delivered sent) lt is message =
+      let same : sent ≡ m = cc message in
+      let here = small sent (delivered_exists h well e sent lt is) in
+      omega arith
+
+  some_number : (o : Option ℕ) → ((m : ℕ) → o ≡ Some m → m < 2 ^ 64) → IfSome (option_map decimal o) (λ name. name ≢ [])
+  some_number None few = tt
+  some_number (Some m) few =
+      let some = decimal_nonempty m (few m refl) in
+      λ (empty : decimal m ≡ []). (let none = ap length empty in omega arith)
+
+  all_named : All HasNamedMessage told
+  all_named e other exists =
+      let lt : e < length h.events = (let same = tells.one_each in omega arith) in
+      let k = (history_event_at h.events e).kind in
+      subst (λ (name : Option (List ℕ)). IfSome name (λ text. text ≢ [])) (sym (tells.each e other lt).message)
+      (some_number (message_of e k) (λ m. number_named e m k lt refl))
+
+  as_read : IsRawLogOf told text
+  as_read = is_as_read told text is_log all_named
+
   size : length log ≡ length h.events
-  size = sym (length-map log (with_names text.nodes messages)) ∙ ap length is_log.told ∙ length-map told without_label ∙ tells.one_each
+  size = sym (length-map log (with_names text.nodes messages)) ∙ ap length as_read.told ∙ length-map told without_asides ∙ tells.one_each
 
   exists : (e : ℕ) → e < length h.events → e < length log
   exists e lt = let same = size in omega arith
@@ -167,15 +201,12 @@ module _ (h : History) (well : IsWellFormed h) (told : List NamedEvent) (text : 
   exists_back : (e : ℕ) → e < length log → e < length h.events
   exists_back e lt = let same = size in omega arith
 
-  small : (e : ℕ) → e < length h.events → e < 2 ^ 64
-  small e lt = let a = well.within_capacity in let b = well.small_capacity in omega arith
-
   -- what is told of the event at a place
-  named_as : (e : ℕ) → e < length h.events → with_names text.nodes messages (event_at log e) ≡ without_label (slice_index_or told e no_name)
+  named_as : (e : ℕ) → e < length h.events → with_names text.nodes messages (event_at log e) ≡ without_asides (slice_index_or told e no_name)
   named_as e lt =
       sym (get_or-map (with_names text.nodes messages) log e no_event no_name (exists e lt))
-      ∙ ap (λ (events : List NamedEvent). slice_index_or events e no_name) is_log.told
-      ∙ get_or-map without_label told e no_name no_name (let same = tells.one_each in omega arith)
+      ∙ ap (λ (events : List NamedEvent). slice_index_or events e no_name) as_read.told
+      ∙ get_or-map without_asides told e no_name no_name (let same = tells.one_each in omega arith)
 
   tells_of : (e : ℕ) → e < length h.events → HasTold h.events e (with_names text.nodes messages (event_at log e))
   tells_of e lt =
@@ -186,13 +217,14 @@ module _ (h : History) (well : IsWellFormed h) (told : List NamedEvent) (text : 
         reading = ap (λ (n : NamedEvent). n.head.reading) is ∙ t.reading;
         has_reading = ap (λ (n : NamedEvent). n.head.has_reading) is ∙ t.has_reading;
         stamp = ap (λ (n : NamedEvent). n.head.stamp) is ∙ t.stamp;
+        has_stamp = ap (λ (n : NamedEvent). n.head.has_stamp) is ∙ t.has_stamp;
         node = ap (λ (n : NamedEvent). n.node) is ∙ t.node;
         message = ap (λ (n : NamedEvent). n.message) is ∙ t.message;
         carried = ap (λ (n : NamedEvent). n.carried) is ∙ t.carried;
       }
 
   named : (e : ℕ) → e < length h.events → IsNamed text.nodes messages (event_at log e)
-  named e lt = is_log.named e no_event (exists e lt)
+  named e lt = as_read.named e no_event (exists e lt)
 
   nodes_once : EachNameOnce text.nodes
   nodes_once = subst EachNameOnce (sym is_log.nodes) (mentions_once _)
@@ -335,6 +367,7 @@ module _ (h : History) (well : IsWellFormed h) (told : List NamedEvent) (text : 
     reading = λ e lt. (tells_of e lt).reading;
     has_reading = λ e lt. (tells_of e lt).has_reading;
     stamp = λ e lt. (tells_of e lt).stamp;
+    has_stamp = λ e lt. (tells_of e lt).has_stamp;
     carried = λ e lt. (tells_of e lt).carried;
     no_rule = λ receives e lt.
         let t = tells_of e lt in

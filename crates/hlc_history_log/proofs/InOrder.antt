@@ -1,6 +1,6 @@
 -- The log of a history in a causal order: its stamps are the least ones.
-use Rattle.std.proofs.Common.{◌≡◌, ◌∙◌, ℕ, ◌<◌, ◌≤◌, inl, inr, List, Option, Some, None, arith, length, refl, sym, ap, subst, take}
-use Rattle.std.specs.Prelude.{Contains}
+use Rattle.std.proofs.Common.{◌≡◌, ◌∙◌, Bool, false, true, ℕ, ◌<◌, ◌≤◌, inl, inr, List, Option, Some, None, arith, length, refl, sym, ap, subst, take}
+use Rattle.std.specs.Prelude.{All, Contains}
 use Rattle.std.proofs.lemmas.List.{ext_get_or, get_or_default, length-map}
 use Rattle.hlc_stamp.specs.declared.limits.TheConstants.{MAX_CAPACITY}
 use Rattle.hlc_stamp.specs.Order.{Pair, zero_pair}
@@ -24,18 +24,20 @@ use Rattle.hlc_causes.specs.Causes.{NamesCauses, no_causes}
 use Rattle.hlc_causes.specs.Seen.{wrong_among}
 use Rattle.hlc_log.specs.declared.log_event.LogEvent.{LogEvent}
 use Rattle.hlc_log.specs.CausalOrder.{IsCausalOrder, IsEarlierOf, MayComeNext, Needs, place_at}
-use Rattle.hlc_log.specs.Events.{event_at}
+use Rattle.hlc_log.specs.Events.{IsInRange, IsSmallCarried, event_at, no_event, own_rule, rule_by}
+use Rattle.hlc_log.specs.declared.log_event.LogKind.{LogKind}
+use Rattle.hlc_log.specs.declared.log_event.LogKind.TheVariants as kind
 use Rattle.hlc_log.specs.Messages.{SendsTo}
 use Rattle.hlc_log.specs.OrderSkeleton.{index_in, rules_in, skeleton_in}
 use Rattle.hlc_log.specs.Reordering.{IsReordering, KeepsEvents}
 use Rattle.hlc_log.proofs.CausalOrders.{contained_before, place_of_contained}
 use Rattle.hlc_log.proofs.OrderSkeletons.{earlier_from_order, earlier_in_order, index_of_place, length-skeleton_in, own_in, place_exists, place_of_index, reading_in, send_from_order, send_in_order}
 use Rattle.hlc_log.proofs.Reorderings.{reordering_keeps_least}
-use Rattle.hlc_log_report.specs.InOrder.{IsCarriedRightly, IsInOrder, LogInOrder, carried_of, claimed_in, claimed_of, clocks_of, skeleton_of}
+use Rattle.hlc_log_report.specs.InOrder.{IsCarriedRightly, IsGivenStamps, IsInOrder, LogInOrder, carried_of, claimed_in, claimed_of, clocks_of, seen_of, skeleton_of, stamp_told}
 use Rattle.hlc_log_report.proofs.CleanLogs.{claims_are_least, none_is_named, seen_is_claimed}
 use Rattle.hlc_log_report.proofs.EventsInOrder.{length-clocks_of}
 use Rattle.hlc_log_report.proofs.Ordering.{claimed_at}
-use Rattle.hlc_history_log.specs.Laws.{HasNoCause}
+use Rattle.hlc_history_log.specs.Laws.{HasNoCause, HasReading}
 use Rattle.hlc_history_log.proofs.HistoryLogs.{IsHistoryLog}
 
 module _ (events : List StampedEvent) (log : List LogEvent) (is : IsHistoryLog events log) where
@@ -157,22 +159,59 @@ module _ (events : List StampedEvent) (log : List LogEvent) (is : IsHistoryLog e
         ∙ sym (reordering_keeps_least seen caused (place_at order) (index_in order) reordered least (stamps_of events) is_least stamps i
         (omega (arith, seen_size))))
 
+-- no event that has no rule of its own is a restart
+no_restart : (event : LogEvent) → own_rule Tick event ≡ None → event.kind ≡ kind.Restart → ⊥
+no_restart event none is =
+    let same = sym none ∙ ap (λ (k : LogKind). rule_by Tick event k) is in
+    cc same
+
+-- its readings are in range, and so is what it has of its own: no floor, and nothing carried
+pub log_in_range : (events : List StampedEvent) (log : List LogEvent) → IsHistoryLog events log → ((e : ℕ) → e < length events → HasReading events e) → All IsInRange log
+log_in_range events log is readings e other exists =
+    let lt : e < length events = (let size = is.size in omega arith) in
+    let reading = readings e lt in
+    let same = is.reading e lt in
+    let range : IsInRange (event_at log e) = record {
+      positive = let low = reading.positive in omega arith;
+      in_range = let high = reading.in_range in omega arith;
+      floor = λ restart. absurd (no_restart (event_at log e) (is.no_rule Tick e lt) restart);
+      carried = subst IsSmallCarried (sym (is.carried e lt)) tt;
+      told = λ restart. is.has_stamp e lt;
+    } in
+    subst IsInRange (get_or_default log e no_event other exists) range
+
+-- it tells each stamp
+pub stamps_told : (events : List StampedEvent) (log : LogInOrder) → IsHistoryLog events log.events → IsCausalOrder log.events log.order
+    → (k : ℕ) → k < length log.order → stamp_told log k ≡ true
+stamps_told events log is causal k lt =
+    let there = place_exists log.events log.order causal k lt in
+    is.has_stamp (place_at log.order k) (let size = is.size in omega arith)
+
+-- so none is given
+none_given : (events : List StampedEvent) (log : LogInOrder) → IsHistoryLog events log.events → IsCausalOrder log.events log.order → IsGivenStamps log
+none_given events log is causal k lt untold =
+    absurd (let bad : ◌≡◌ {A = Bool} true false = sym (stamps_told events log is causal k lt) ∙ untold in cc bad)
+
 -- in its own order
 pub log_in_own_order : (events : List StampedEvent) (log : List LogEvent) → IsHistoryLog events log → length events ≤ MAX_CAPACITY
+    → ((e : ℕ) → e < length events → HasReading events e)
     → (in_order : LogInOrder) × (in_order.receives ≡ Tick) × (in_order.events ≡ log) × IsInOrder in_order
-log_in_own_order events log is few =
+log_in_own_order events log is few readings =
     let order = places_below (length log) in
     let causal = own_order_is_causal events log is in
-    let least = least_list_exists (skeleton_in log order) in (
-      record { receives = Tick; events = log; order = order; least = least.0 },
+    let least = least_list_exists (skeleton_in log order) in
+    let whole : LogInOrder = record { receives = Tick; events = log; order = order; least = least.0 } in (
+      whole,
       refl,
       refl,
       record {
         few = let size = is.size in omega arith;
+        in_range = log_in_range events log is readings;
         messages = is.sound;
         causal = causal;
         least = subst (λ (t : ClockEvents). IsLeastFeasible t least.0) (sym (clocks_are_plain events log is Tick order causal))
             ((least_by_readings (plain_rules Tick) (skeleton_in log order) refl least.0).0 least.1);
+        given = none_given events whole is causal;
       },
     )
 
@@ -189,12 +228,15 @@ carried_rightly events log is in_order k lt =
     (is.carried (place_at log.order k) (let size = is.size in omega arith))
 
 -- if the claimed stamps are the least ones, and no message carried another, none is a cause
-pub no_cause : (log : LogInOrder) → IsInOrder log → claimed_of log ≡ log.least → IsCarriedRightly log → HasNoCause log
-no_cause log in_order same right full k lt =
+pub no_cause : (log : LogInOrder) → IsInOrder log → claimed_of log ≡ log.least → IsCarriedRightly log
+    → ((k : ℕ) → k < length log.order → stamp_told log k ≡ true) → HasNoCause log
+no_cause log in_order same right told full k lt cause =
     let size : length (skeleton_of log) ≡ length log.order = length-skeleton_in log.events log.order in_order.causal in
     let exists : k < length (clocks_of log) = omega (arith, lt, size, length-clocks_of log) in
+    let names : NamesCauses (clocks_of log) (seen_of log k) full k no_causes =
     subst (λ (pairs : List Pair). NamesCauses (clocks_of log) pairs full k no_causes) (sym (seen_is_claimed log in_order right k exists))
-    (none_is_named (clocks_of log) (claimed_of log) (claims_are_least log in_order same) full k exists)
+    (none_is_named (clocks_of log) (claimed_of log) (claims_are_least log in_order same) full k exists) in
+    (λ has. (told k lt, (names cause).0 has), λ broken. (names cause).1 broken.1)
 
 pub in_order_is_clean : (events : List StampedEvent) (log : LogInOrder) → IsHistoryLog events log.events → HasLeastStamps events → log.receives ≡ Tick → IsInOrder log
     → (claimed_of log ≡ log.least) × IsCarriedRightly log × HasNoCause log
@@ -204,4 +246,4 @@ in_order_is_clean events log is stamps ticks in_order =
     (subst (λ (t : ClockEvents). IsLeastFeasible t log.least) plain in_order.least) in
     let same = claims_least events log.events is log.order in_order.causal log.least stamps least in
     let right = carried_rightly events log is in_order in
-    (same, right, no_cause log in_order same right)
+    (same, right, no_cause log in_order same right (stamps_told events log is in_order.causal))

@@ -24,7 +24,7 @@ use Rattle.hlc_log_text.specs.declared.bad_log.BadLog.{BadLog}
 use Rattle.hlc_log_text.specs.declared.log_text.LogText.{LogText}
 use Rattle.hlc_log_text.proofs.PlainLogs.{placed_say, said_once}
 use Rattle.hlc_history_log.specs.Label.{label_of}
-use Rattle.hlc_history_log.specs.Laws.{IsClocked, IsLogRead, LogsAuditClean, LogsHaveAnOrder, LogsTellEventsAlone, LogsTellNothingCarried, LogsTellReadings, RowsMakeEvents, TellHistory, TellsOf}
+use Rattle.hlc_history_log.specs.Laws.{IsClocked, IsLogRead, LogsAuditClean, LogsHaveAnOrder, LogsTellEventsAlone, LogsTellNothingCarried, LogsTellReadings, LogsTellStamps, RowsMakeEvents, TellHistory, TellsOf}
 use Rattle.hlc_history_log.specs.LogRows.{log_row, log_rows, message_of}
 use Rattle.hlc_history_log.proofs.FewNodes.{IsDecimalBelow, few_names}
 use Rattle.hlc_history_log.proofs.HistoryLogs.{IsHistoryLog, is_history_log}
@@ -139,7 +139,7 @@ module _ (h : History) (clocked : IsClocked h) where
   tells_history : TellHistory h.events told
   tells_history = record {
     one_each = told_size;
-    each = λ e d lt. subst (TellsOf h.events e) (sym (told_is e d lt)) (record { word = refl; reading = refl; has_reading = refl; stamp = refl; node = refl; message = refl; carried = refl; label = refl });
+    each = λ e d lt. subst (TellsOf h.events e) (sym (told_is e d lt)) (record { word = refl; reading = refl; has_reading = refl; stamp = refl; has_stamp = refl; node = refl; message = refl; from = refl; carried = refl; label = refl });
   }
 
   nodes_below : All (IsDecimalBelow MAX_NODES) (map (λ (e : NamedEvent). e.node) told)
@@ -188,7 +188,7 @@ pub logs_have_an_order : LogsHaveAnOrder
 logs_have_an_order h text clocked read =
     let few = clocked.well_formed.within_capacity in
     let small = clocked.well_formed.small_capacity in
-    log_in_own_order h.events text.log.events (log_is_read h clocked text read) (omega arith)
+    log_in_own_order h.events text.log.events (log_is_read h clocked text read) (omega arith) clocked.readings
 
 pub logs_tell_events_alone : LogsTellEventsAlone
 logs_tell_events_alone h text clocked read =
@@ -199,6 +199,11 @@ pub logs_tell_readings : LogsTellReadings
 logs_tell_readings h text e clocked read lt =
     let is = log_is_read h clocked text read in
     is.has_reading e (let same = is.size in omega arith)
+
+pub logs_tell_stamps : LogsTellStamps
+logs_tell_stamps h text e clocked read lt =
+    let is = log_is_read h clocked text read in
+    is.has_stamp e (let same = is.size in omega arith)
 
 pub logs_tell_nothing_carried : LogsTellNothingCarried
 logs_tell_nothing_carried h text e clocked read lt =

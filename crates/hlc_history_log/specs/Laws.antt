@@ -6,12 +6,13 @@ use Rattle.hlc_causality.specs.declared.receives.Receives.TheVariants.{Tick}
 use Rattle.hlc_arena.specs.Arena.{IsWellFormed}
 use Rattle.hlc_arena.specs.ClockRule.{HasLeastStamps}
 use Rattle.hlc_arena.specs.History.{Delivered, Erased, EventKind, History, Sent, StampedEvent, Synced, Written, event_at, stamp_at}
-use Rattle.hlc_causes.specs.Causes.{NamesCauses, no_causes}
+use Rattle.hlc_causes.specs.Causes.{no_causes}
 use Rattle.hlc_csv.specs.Records.{AreAllOf, IsOnly}
 use Rattle.hlc_log.specs.Events.{event_at as log_event_at}
 use Rattle.hlc_log.specs.declared.log_event.LogKind.{LogKind}
 use Rattle.hlc_log.specs.declared.log_event.LogKind.TheVariants as kind
-use Rattle.hlc_log_report.specs.InOrder.{IsCarriedRightly, IsInOrder, LogInOrder, claimed_of, clocks_of, seen_of}
+use Rattle.hlc_log_report.specs.Found.{NamesCausesIn}
+use Rattle.hlc_log_report.specs.InOrder.{IsCarriedRightly, IsInOrder, LogInOrder, claimed_of}
 use Rattle.hlc_log_text.specs.LogItem.{Tells}
 use Rattle.hlc_log_text.specs.LogText.{kind_word}
 use Rattle.hlc_log_text.specs.NamedEvent.{NamedEvent}
@@ -43,14 +44,16 @@ log_kind e (Synced to writes) = kind.Send (record { 0 = e })
 log_kind e (Delivered sent) = kind.Receive (record { 0 = sent })
 
 -- what is told is the event at e: its word, its reading and its stamp, and as a label what happened; its node and its message go by
--- their numbers, and nothing is told of what the message carried
+-- their numbers, no sender is named in place of the message, and nothing is told of what that carried
 pub record TellsOf (events : List StampedEvent) (e : ℕ) (told : NamedEvent) : Type 0 where
   pub word : told.head.word ≡ kind_word (log_kind e (event_at events e).kind)
   pub reading : told.head.reading ≡ (event_at events e).reading
   pub has_reading : told.head.has_reading ≡ true
   pub stamp : told.head.stamp ≡ stamp_at events e
+  pub has_stamp : told.head.has_stamp ≡ true
   pub node : told.node ≡ decimal (event_at events e).node
   pub message : told.message ≡ option_map decimal (message_of e (event_at events e).kind)
+  pub from : told.from ≡ None
   pub carried : told.carried ≡ None
   pub label : told.label ≡ Some (label_of events (event_at events e).kind)
 
@@ -103,6 +106,11 @@ abbrev pub LogsTellReadings : Type 0
 LogsTellReadings = (h : History) (text : LogText) (e : ℕ) → IsClocked h → IsLogRead h text → e < length text.log.events →
     (log_event_at text.log.events e).has_reading ≡ true
 
+-- and its stamp
+abbrev pub LogsTellStamps : Type 0
+LogsTellStamps = (h : History) (text : LogText) (e : ℕ) → IsClocked h → IsLogRead h text → e < length text.log.events →
+    (log_event_at text.log.events e).has_stamp ≡ true
+
 -- but of no event what its message carried
 abbrev pub LogsTellNothingCarried : Type 0
 LogsTellNothingCarried = (h : History) (text : LogText) (e : ℕ) → IsClocked h → IsLogRead h text → e < length text.log.events →
@@ -110,7 +118,7 @@ LogsTellNothingCarried = (h : History) (text : LogText) (e : ℕ) → IsClocked 
 
 -- no event of a log in order is a cause, whatever c can be written
 abbrev pub HasNoCause : LogInOrder → Type 0
-HasNoCause log = (full k : ℕ) → k < length log.order → NamesCauses (clocks_of log) (seen_of log k) full k no_causes
+HasNoCause log = (full k : ℕ) → k < length log.order → NamesCausesIn log full k no_causes
 
 -- and in each such order the stamps are the least ones of clocks that tick at receives, no message carried another stamp, and none is a cause
 abbrev pub LogsAuditClean : Type 0

@@ -2,16 +2,17 @@
 //!
 //! They speak of any history as a cluster makes them: well-formed, with readings of clocks, and with least stamps.
 
-ghost use Rattle.hlc_history_log.specs.Laws.{LogsAuditClean, LogsHaveAnOrder, LogsReadBack, LogsTellEventsAlone, LogsTellNothingCarried, LogsTellReadings, RowsMakeEvents, TwoLinesEach};
+ghost use Rattle.hlc_history_log.specs.Laws.{LogsAuditClean, LogsHaveAnOrder, LogsReadBack, LogsTellEventsAlone, LogsTellNothingCarried, LogsTellReadings, LogsTellStamps, RowsMakeEvents, TwoLinesEach};
 
 /// The text of a log is read as its rows, and the rows tell of the events of the history, in its order: of each one what it is,
-/// its reading and its stamp, with its node and its message by their numbers. They ask nothing, leave no reading out, and don't tell which
-/// stamps messages carried.
+/// its reading and its stamp, with its node and its message by their numbers. They ask nothing, leave no reading and no stamp out, and don't tell
+/// which stamps messages carried.
 pub fn logs_tell_of_their_histories()
     ensures read_back { LogsReadBack }
     ensures events { RowsMakeEvents }
     ensures alone { LogsTellEventsAlone }
     ensures readings { LogsTellReadings }
+    ensures stamps { LogsTellStamps }
     ensures carried { LogsTellNothingCarried }
 {}
 

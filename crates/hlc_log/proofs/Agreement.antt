@@ -110,6 +110,7 @@ log_kept events = record {
   exists = λ e lt. lt;
   reading = λ e lt. refl;
   has_reading = λ e lt. refl;
+  has_stamp = λ e lt. refl;
   carried = λ e lt. refl;
   rule = λ receives e lt. refl;
   at_node = λ d e h. h;

@@ -1,5 +1,7 @@
 pub mod Numbered
 pub mod SentMessages
+pub mod SentStamps
+pub mod ToldApart
 pub mod CausalOrders
 pub mod LoggedOrders
 pub mod OwnRules

@@ -27,6 +27,11 @@ pub kept_at : (carried : List (Option Pair)) (slots : List Slot) (e : ℕ) (none
     → carried_at carried e ≡ (event_at (stored_events carried slots) e).carried
 kept_at carried slots e none lt = sym (ap (λ (event : LogEvent). event.carried) (stored_at carried slots e none lt))
 
+pub carried_is : (carried : List (Option Pair)) (slots : List Slot) (e : ℕ) → e < length slots
+    → carried_at carried e ≡ (event_at (stored_events carried slots) e).carried
+carried_is carried [] e lt = absurd (omega (arith, lt))
+carried_is carried (slot ∷ slots) e lt = kept_at carried (slot ∷ slots) e slot lt
+
 pub stored_push : (carried : List (Option Pair)) (slots : List Slot) (slot : Slot)
     → stored_events carried (slots ++ slot ∷ []) ≡ stored_events carried slots ++ stored_event (carried_at carried (length slots)) slot ∷ []
 stored_push [] [] slot = refl

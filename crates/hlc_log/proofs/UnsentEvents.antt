@@ -125,6 +125,7 @@ still_in_range as_local event true h = record {
   in_range = h.in_range;
   floor = λ is. h.floor (no_restart as_local event.carried event.kind is);
   carried = h.carried;
+  told = λ is. h.told (no_restart as_local event.carried event.kind is);
 }
 still_in_range as_local event false h = h
 

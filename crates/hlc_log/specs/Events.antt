@@ -14,11 +14,18 @@ use Rattle.hlc_log.specs.declared.log_event.LogKind.TheVariants.{Local, Outside,
 
 -- what event_at answers past the end
 abbrev pub no_event : LogEvent
-no_event = record { node = record { 0 = 0 }; reading = 0; has_reading = true; kind = Local; stamp = zero_pair; carried = None; line = 0 }
+no_event = record { node = record { 0 = 0 }; reading = 0; has_reading = true; kind = Local; stamp = zero_pair; has_stamp = true; carried = None; line = 0 }
 
 -- the event at a place
 abbrev pub event_at : List LogEvent → ℕ → LogEvent
 event_at events e = slice_index_or events e no_event
+
+-- an event with this stamp, or of this kind, in place of its own
+abbrev pub with_stamp : Pair → LogEvent → LogEvent
+with_stamp stamp event = record event { stamp = stamp }
+
+abbrev pub of_kind : LogKind → LogEvent → LogEvent
+of_kind kind event = record event { kind = kind }
 
 -- the message, if there is one, has a number below n
 abbrev pub IsMessageBelow : ℕ → LogKind → Type 0
@@ -58,9 +65,11 @@ own_rule receives event = rule_by receives event event.kind
 abbrev pub IsSmallCarried : Option Pair → Type 0
 IsSmallCarried carried = IfSome carried (λ p. p.c < MAX_FLOOR_C)
 
--- the reading of an event is one that a clock may have, and the floor that it has of its own, if it has one, has room for each c above it
+-- the reading of an event is one that a clock may have, and the floor that it has of its own, if it has one, has room for each c above it;
+-- the stamp of a restart is told
 pub record IsInRange (event : LogEvent) : Type 0 where
   pub positive : 1 ≤ event.reading
   pub in_range : event.reading ≤ MAX_READING
   pub floor : event.kind ≡ Restart → event.stamp.c ≤ MAX_FLOOR_C
   pub carried : IsSmallCarried event.carried
+  pub told : event.kind ≡ Restart → event.has_stamp ≡ true

@@ -1,5 +1,6 @@
 -- The laws of causal orders.
-use Rattle.std.specs.Prelude.{◌≡◌, ◌↔◌, ℕ, ◌<◌, List, length, map}
+use Rattle.std.specs.Prelude.{◌≡◌, ◌↔◌, ℕ, ◌<◌, All, List, Option, length, map}
+use Rattle.hlc_stamp.specs.declared.id.NodeId.{NodeId}
 use Rattle.hlc_stamp.specs.Order.{Pair}
 use Rattle.hlc_causality.specs.declared.receives.Receives.{Receives}
 use Rattle.hlc_causality.specs.Assignment.{IsLeast, pair_at}
@@ -11,18 +12,25 @@ use Rattle.hlc_causality.specs.FollowedClockChains.{clock_chain_of}
 use Rattle.hlc_causality.specs.NodeEvents.{IsFurthestAhead}
 use Rattle.hlc_causality.specs.ReceiveEvents.{ClockRules, clock_events, own_at}
 use Rattle.hlc_log.specs.declared.log_event.LogEvent.{LogEvent}
+use Rattle.hlc_log.specs.declared.message_id.MessageId.{MessageId}
 use Rattle.hlc_log.specs.declared.order_fault.OrderFault.{OrderFault}
 use Rattle.hlc_log.specs.declared.order_fault.OrderFault.TheVariants.{Memory}
 use Rattle.hlc_log.specs.CausalOrder.{IsCausalOrder, place_at}
 use Rattle.hlc_log.specs.Faults.{IsFaultOf}
 use Rattle.hlc_log.specs.Messages.{AreMessagesSound, EachIsSentOnce}
 use Rattle.hlc_log.specs.OrderSkeleton.{rules_in, skeleton_in}
+use Rattle.hlc_log.specs.Senders.{HasOther, told_apart}
 use Rattle.hlc_log.specs.Reordering.{HaveEqualPairs, IsClockReordering, IsReorderedLog, IsReordering, IsSameNode, SendsAreNamed}
 
 -- a log of which a fault is true, other than that memory was refused, has messages that aren't sound or no causal order
 abbrev pub FaultsLeaveNoOrder : Type 0
 FaultsLeaveNoOrder = (events : List LogEvent) (fault : OrderFault) → IsFaultOf events fault → ¬ (fault ≡ Memory) → AreMessagesSound events →
     (order : List ℕ) → ¬ IsCausalOrder events order
+
+-- where no event has the message of that number, telling messages apart changes nothing
+abbrev pub NamedMessagesStay : Type 0
+NamedMessagesStay = (unnamed : MessageId) (messages : ℕ) (senders : List (Option NodeId)) (events : List LogEvent) →
+    All (λ event. HasOther unnamed event.kind) events → told_apart unnamed messages senders events ≡ events
 
 -- a reordering keeps what happened before what
 abbrev pub ReorderingKeepsHappenedBefore : Type 0

@@ -8,5 +8,6 @@ pub mod OrderSkeleton
 pub mod Placing
 pub mod Reordering
 pub mod SendLinks
+pub mod Senders
 pub mod Slots
 pub mod Unsent

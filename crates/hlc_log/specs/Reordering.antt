@@ -42,12 +42,13 @@ HaveEqualPairs s to pairs others = (e : ℕ) → e < length s → pair_at pairs 
 abbrev pub IsSameNode : Skeleton → Skeleton → (to : ℕ → ℕ) → (a b : ℕ) → Type 0
 IsSameNode s t to a b = (e : ℕ) → e < length s → ((skeleton_at s e).node ≡ a) ↔ ((skeleton_at t (to e)).node ≡ b)
 
--- a map takes the events of a log to those of another: it keeps readings, which of them are told, what messages carried, rules of their own
+-- a map takes the events of a log to those of another: it keeps readings, which of them and of stamps are told, what messages carried, rules of their own
 -- whatever clocks do at receives, what is earlier at each node, and who sends what is received
 pub record KeepsLog (events others : List LogEvent) (to : ℕ → ℕ) : Type 0 where
   pub exists : (e : ℕ) → e < length events → to e < length others
   pub reading : (e : ℕ) → e < length events → (event_at others (to e)).reading ≡ (event_at events e).reading
   pub has_reading : (e : ℕ) → e < length events → (event_at others (to e)).has_reading ≡ (event_at events e).has_reading
+  pub has_stamp : (e : ℕ) → e < length events → (event_at others (to e)).has_stamp ≡ (event_at events e).has_stamp
   pub carried : (e : ℕ) → e < length events → (event_at others (to e)).carried ≡ (event_at events e).carried
   pub rule : (receives : Receives) (e : ℕ) → e < length events → own_rule receives (event_at others (to e)) ≡ own_rule receives (event_at events e)
   pub at_node : (d e : ℕ) → IsEarlierOf events d e → IsEarlierOf others (to d) (to e)

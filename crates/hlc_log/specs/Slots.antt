@@ -1,5 +1,5 @@
 -- The slots of a log, and what is kept aside.
-use Rattle.std.specs.Prelude.{ℕ, ◌-◌, ◌≤◌, List, [], ◌∷◌, ◌++◌, Option, Some, None, length, replicate, slice_index_or}
+use Rattle.std.specs.Prelude.{ℕ, Bool, true, false, ◌-◌, ◌≤◌, List, [], ◌∷◌, ◌++◌, Option, Some, None, length, replicate, slice_index_or}
 use Rattle.hlc_stamp.specs.declared.limits.TheConstants.{MAX_CAPACITY}
 use Rattle.hlc_stamp.specs.Order.{Pair}
 use Rattle.hlc_log.specs.declared.log_event.LogEvent.{LogEvent}
@@ -9,6 +9,8 @@ use Rattle.hlc_log.specs.declared.message_id.MessageId.{MessageId}
 use Rattle.hlc_log.specs.declared.slot.Role.{Role}
 use Rattle.hlc_log.specs.declared.slot.Role.TheVariants as role
 use Rattle.hlc_log.specs.declared.slot.Slot.{Slot}
+use Rattle.hlc_log.specs.declared.slot.Told.{Told}
+use Rattle.hlc_log.specs.declared.slot.Told.TheVariants as told
 use Rattle.hlc_log.specs.Log.{StoredLog}
 
 -- what an event is, by what it does with its message
@@ -19,6 +21,19 @@ kind_by role.Receive message = kind.Receive message
 kind_by role.Restart message = kind.Restart
 kind_by role.Outside message = kind.Outside
 
+-- whether what is told of an event is its reading, and whether it is its stamp
+abbrev pub tells_reading : Told → Bool
+tells_reading told.Both = true
+tells_reading told.Reading = true
+tells_reading told.Stamp = false
+tells_reading told.Neither = false
+
+abbrev pub tells_stamp : Told → Bool
+tells_stamp told.Both = true
+tells_stamp told.Reading = false
+tells_stamp told.Stamp = true
+tells_stamp told.Neither = false
+
 -- the event that a slot holds, with what its message carried
 abbrev pub stored_event : Option Pair → Slot → LogEvent
 stored_event carried slot =
@@ -26,9 +41,10 @@ stored_event carried slot =
     record {
       node = slot.node;
       reading = slot.reading;
-      has_reading = slot.has_reading;
+      has_reading = tells_reading slot.told;
       kind = kind_by slot.role slot.message;
       stamp = stamp;
+      has_stamp = tells_stamp slot.told;
       carried = carried;
       line = slot.line;
     }

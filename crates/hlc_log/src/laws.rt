@@ -1,6 +1,6 @@
 //! The laws of causal orders, as contracts of functions that do nothing.
 
-ghost use Rattle.hlc_log.specs.Laws.{CausalOrdersAgree, ClockReorderingKeepsChains, ClockReorderingKeepsLeast, FaultsLeaveNoOrder, ReorderedLogsAgree, ReorderingKeepsChains, ReorderingKeepsFurthestAhead, ReorderingKeepsHappenedBefore, ReorderingKeepsLeast, RulesAreReordered};
+ghost use Rattle.hlc_log.specs.Laws.{CausalOrdersAgree, ClockReorderingKeepsChains, ClockReorderingKeepsLeast, FaultsLeaveNoOrder, NamedMessagesStay, ReorderedLogsAgree, ReorderingKeepsChains, ReorderingKeepsFurthestAhead, ReorderingKeepsHappenedBefore, ReorderingKeepsLeast, RulesAreReordered};
 
 /// `causal_order` answers a fault only if it must: a log of which a fault other than Memory is true has no causal order in
 /// which each message is sent once, and before it is received.
@@ -34,4 +34,9 @@ pub fn reordering_keeps_drift()
 pub fn orders_agree()
     ensures orders { CausalOrdersAgree }
     ensures logs { ReorderedLogsAgree }
+{}
+
+/// A log in which each message has a name stays as it is when messages without a name are told apart, whichever number these have.
+pub fn named_messages_stay()
+    ensures { NamedMessagesStay }
 {}

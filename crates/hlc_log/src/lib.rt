@@ -14,10 +14,13 @@
 //!   a receive of a message that nobody sends, or receives that wait for one another.
 //! - [`Log::take_unsent`] takes the receives of messages that nobody sends, for logs that are only a part: as coming in from outside, if
 //!   they tell what was carried, and else, if asked, as local events. [`UnsentCounts`] says how many there were.
+//! - [`tell_apart`] tells messages without a name apart, for logs in which a receive names the node that sent its message, and the stamp that
+//!   this carried: it receives the first message that this node sends with that claimed stamp, wherever in the log that is, or comes from outside.
 //! - `laws` says that stamps, chains and drifts don't depend on the order, and that a fault leaves none.
 //!
 //! It reads no text and numbers no names: the caller says which node, and which message by its number. It looks at no claimed
-//! stamp but that of a restart, at no carried one but that of a message from outside, and computes none.
+//! stamp but that of a restart, at no carried one but that of a message from outside, and at both where a receive names its sender; it
+//! computes none.
 //!
 //! A first caller, proved in `hlc_log_examples`: a log tells of a receive before its send, and in a causal order the send comes first.
 //!
@@ -48,6 +51,7 @@ mod message_id;
 mod order;
 mod order_fault;
 mod placing;
+mod senders;
 mod sends;
 mod slot;
 mod unsent;
@@ -58,4 +62,5 @@ pub use log_event::{LogEvent, LogKind};
 pub use message_id::MessageId;
 pub use order::causal_order;
 pub use order_fault::OrderFault;
+pub use senders::tell_apart;
 pub use unsent_counts::UnsentCounts;

@@ -1,5 +1,5 @@
-ghost use Rattle.std.specs.Prelude.{◌≡◌, ℕ, ◌<◌, ◌≤◌, ◌↔◌, [], ◌∷◌, ◌++◌, All, IfOk, IfSome, IsNone, IsTrue, OnErr, OnOk, length};
-ghost use Rattle.hlc_log.specs.Events.{IsInRange, IsNumbered, event_at};
+ghost use Rattle.std.specs.Prelude.{◌≡◌, ℕ, ◌<◌, ◌≤◌, ◌↔◌, [], ◌∷◌, ◌++◌, All, IfOk, IfSome, IsNone, IsTrue, OnErr, OnOk, false, length, slice_set};
+ghost use Rattle.hlc_log.specs.Events.{IsInRange, IsNumbered, event_at, of_kind, with_stamp};
 ghost use Rattle.hlc_log.specs.Messages.{ReceivesUnsent};
 ghost use Rattle.hlc_log.specs.Slots.{stored_event};
 ghost use Rattle.hlc_log.specs.Unsent.{local_count, outside_count, with_unsent};
@@ -125,7 +125,42 @@ impl Log {
         requires { place.0 < length self.now.events }
         ensures { result ≡ (event_at self.now.events place.0).has_reading }
     {
-        self.slot(place).has_reading
+        self.slot(place).told.has_reading()
+    }
+
+    /// Whether the log tells the stamp of the event at a place.
+    #[inline]
+    pub fn has_stamp_at(&self, place: EventId) -> bool
+        requires { place.0 < length self.now.events }
+        ensures { result ≡ (event_at self.now.events place.0).has_stamp }
+    {
+        self.slot(place).told.has_stamp()
+    }
+
+    /// The stamp that the message of the event at a place carried, if the log tells that.
+    #[inline]
+    pub fn carried_at(&self, place: EventId) -> Option<Stamp>
+        requires { place.0 < length self.now.events }
+        ensures { result ≡ (event_at self.now.events place.0).carried }
+    {
+        self.carried.at(place.0 as usize)
+    }
+
+    /// Gives the event at a place a stamp. The log tells none.
+    pub fn give_stamp(&mut self, place: EventId, stamp: Stamp)
+        requires exists { place.0 < length self.old.events }
+        requires untold { (event_at self.old.events place.0).has_stamp ≡ false }
+        ensures { self.new.events ≡ slice_set self.old.events place.0 (with_stamp stamp (event_at self.old.events place.0)) }
+    {
+        self.slots.at_mut(place.0 as usize).give_stamp(stamp);
+    }
+
+    // Takes the event at a place as one of this kind.
+    pub(crate) fn take_as(&mut self, place: EventId, kind: LogKind)
+        requires { place.0 < length self.old.events }
+        ensures { self.new.events ≡ slice_set self.old.events place.0 (of_kind kind (event_at self.old.events place.0)) }
+    {
+        self.slots.at_mut(place.0 as usize).take_as(kind);
     }
 
     // The slot of the event at a place.

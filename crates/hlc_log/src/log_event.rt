@@ -16,8 +16,10 @@ pub struct LogEvent {
     pub has_reading: bool,
     /// What happened.
     pub kind: LogKind,
-    /// The stamp that the log claims for it, whatever it is.
+    /// The stamp that the log claims for it, whatever it is; or, if the log tells none, the one that it is given.
     pub stamp: Stamp,
+    /// Whether the log tells the stamp. If not, the event is a receive, and claims nothing.
+    pub has_stamp: bool,
     /// Of a receive, the stamp that its message carried, if the log tells that.
     pub carried: Option<Stamp>,
     /// The line of the log that tells of it.

@@ -1,8 +1,9 @@
 // Where a log keeps an event.
 
-ghost use Rattle.std.specs.Prelude.{◌≡◌, false, length, true};
-ghost use Rattle.hlc_log.specs.Events.{IsMessageBelow};
-ghost use Rattle.hlc_log.specs.Slots.{kind_by, stored_event};
+ghost use Rattle.std.specs.Prelude.{◌≡◌, Option, false, length, true};
+ghost use Rattle.hlc_stamp.specs.Order.{Pair};
+ghost use Rattle.hlc_log.specs.Events.{IsMessageBelow, of_kind, with_stamp};
+ghost use Rattle.hlc_log.specs.Slots.{kind_by, stored_event, tells_reading, tells_stamp};
 ghost use Rattle.hlc_log.specs.Unsent.{is_unmarked};
 
 use crate::log_event::{LogEvent, LogKind};
@@ -22,6 +23,64 @@ pub(crate) enum Role {
     Outside,
 }
 
+// What the log tells of an event.
+#[derive(Clone, Copy)]
+pub(crate) enum Told {
+    // What the clock read, and the stamp.
+    Both,
+    Reading,
+    Stamp,
+    Neither,
+}
+
+impl Told {
+    // Of an event whose reading is told or isn't, and so its stamp.
+    fn new(has_reading: bool, has_stamp: bool) -> Told
+        ensures reading { tells_reading result ≡ has_reading }
+        ensures stamp { tells_stamp result ≡ has_stamp }
+    {
+        match (has_reading, has_stamp) {
+            (true, true) => Told::Both,
+            (true, false) => Told::Reading,
+            (false, true) => Told::Stamp,
+            (false, false) => Told::Neither,
+        }
+    }
+
+    // Whether the reading is told.
+    pub(crate) fn has_reading(self) -> bool
+        ensures { result ≡ tells_reading self }
+    {
+        match self {
+            Told::Both | Told::Reading => true,
+            Told::Stamp | Told::Neither => false,
+        }
+    }
+
+    // Whether the stamp is told.
+    pub(crate) fn has_stamp(self) -> bool
+        ensures { result ≡ tells_stamp self }
+    {
+        match self {
+            Told::Both | Told::Stamp => true,
+            Told::Reading | Told::Neither => false,
+        }
+    }
+}
+
+// What an event of a kind does with its message, and the message, whatever it is if there is none.
+fn stored_kind(kind: LogKind) -> (Role, MessageId)
+    ensures { kind_by result.0 result.1 ≡ kind }
+{
+    match kind {
+        LogKind::Local => (Role::Local, MessageId(0)),
+        LogKind::Send(message) => (Role::Send, message),
+        LogKind::Receive(message) => (Role::Receive, message),
+        LogKind::Restart => (Role::Restart, MessageId(0)),
+        LogKind::Outside => (Role::Outside, MessageId(0)),
+    }
+}
+
 // An event in 32 bytes, without what its message carried, which few logs tell. A `LogEvent` takes 80.
 #[derive(Clone, Copy)]
 pub(crate) struct Slot {
@@ -33,7 +92,7 @@ pub(crate) struct Slot {
     pub(crate) message: MessageId,
     pub(crate) node: NodeId,
     pub(crate) role: Role,
-    pub(crate) has_reading: bool,
+    pub(crate) told: Told,
 }
 
 const _: () = prove!(size_of::<Slot>() == 32);
@@ -43,13 +102,7 @@ impl Slot {
     pub(crate) fn new(event: LogEvent) -> Slot
         ensures { stored_event event.carried result ≡ event }
     {
-        let (role, message) = match event.kind {
-            LogKind::Local => (Role::Local, MessageId(0)),
-            LogKind::Send(message) => (Role::Send, message),
-            LogKind::Receive(message) => (Role::Receive, message),
-            LogKind::Restart => (Role::Restart, MessageId(0)),
-            LogKind::Outside => (Role::Outside, MessageId(0)),
-        };
+        let (role, message) = stored_kind(event.kind);
         Slot {
             reading: event.reading,
             l: event.stamp.l,
@@ -58,7 +111,7 @@ impl Slot {
             message,
             node: event.node,
             role,
-            has_reading: event.has_reading,
+            told: Told::new(event.has_reading, event.has_stamp),
         }
     }
 
@@ -70,9 +123,10 @@ impl Slot {
         LogEvent {
             node: self.node,
             reading: self.reading,
-            has_reading: self.has_reading,
+            has_reading: self.told.has_reading(),
             kind: self.kind(),
             stamp: self.stamp(),
+            has_stamp: self.told.has_stamp(),
             carried,
             line: self.line,
         }
@@ -101,6 +155,23 @@ impl Slot {
             l: self.l,
             c: self.c,
         }
+    }
+
+    // Gives the event a stamp.
+    pub(crate) fn give_stamp(&mut self, stamp: Stamp)
+        ensures { (carried : Option Pair) → stored_event carried self.new ≡ with_stamp stamp (stored_event carried self.old) }
+    {
+        self.l = stamp.l;
+        self.c = stamp.c;
+    }
+
+    // Makes it an event of a kind.
+    pub(crate) fn take_as(&mut self, kind: LogKind)
+        ensures { (carried : Option Pair) → stored_event carried self.new ≡ of_kind kind (stored_event carried self.old) }
+    {
+        let (role, message) = stored_kind(kind);
+        self.role = role;
+        self.message = message;
     }
 
     // Makes it an event with this role, if it receives a message that has no mark; answers whether it did.

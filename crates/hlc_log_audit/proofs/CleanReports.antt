@@ -1,45 +1,41 @@
 -- The report on a log that claims the least stamps.
-use Rattle.std.proofs.Common.{◌≡◌, ◌∙◌, ℕ, ◌<◌, inl, inr, List, [], ◌∷◌, ◌++◌, length, Option, Some, None, append-nil, arith, refl, subst, sym, ap}
+use Rattle.std.proofs.Common.{◌≡◌, ◌∙◌, ℕ, ◌<◌, inl, inr, List, [], ◌∷◌, ◌++◌, length, Option, Some, None, append-nil, arith, refl, sym, ap}
 use Rattle.std.specs.Prelude.{codes, slice_index_or}
 use Rattle.hlc_stamp.specs.Order.{Pair}
 use Rattle.hlc_causality.specs.Assignment.{pair_at}
-use Rattle.hlc_causes.specs.Causes.{NamesCauses, no_causes}
+use Rattle.hlc_causes.specs.Causes.{no_causes}
 use Rattle.hlc_causes.specs.declared.answers.Cause.TheVariants.{Behind, NotAbovePrevious, NotAboveSend}
 use Rattle.hlc_causes.specs.declared.answers.Causes.{Causes}
-use Rattle.hlc_causes.proofs.CauseLaws.{causes_are_unique}
 use Rattle.hlc_csv.specs.Rows.{Fields}
 use Rattle.hlc_log.specs.Events.{event_at}
 use Rattle.hlc_log.proofs.CausalOrders.{place_in_order}
-use Rattle.hlc_log.proofs.OrderSkeletons.{place_of_index, reading_in}
+use Rattle.hlc_log.proofs.OrderSkeletons.{length-skeleton_in, place_of_index, reading_in}
 use Rattle.hlc_log.specs.OrderSkeleton.{index_in}
-use Rattle.hlc_log_report.specs.Counts.{AreCounted, no_findings}
-use Rattle.hlc_log_report.specs.InOrder.{IsCarriedRightly, IsInOrder, LogInOrder, claimed_of, clocks_of, seen_of}
+use Rattle.hlc_log_report.specs.Counts.{AreCounted, no_findings, told_count}
+use Rattle.hlc_log_report.specs.Found.{NamesCausesIn}
+use Rattle.hlc_log_report.specs.InOrder.{IsCarriedRightly, IsInOrder, LogInOrder, claimed_of, clocks_of}
 use Rattle.hlc_log_report.specs.Messages.{message_counts}
 use Rattle.hlc_log_report.specs.declared.counts.Counts.{Counts}
-use Rattle.hlc_log_report.proofs.CleanLogs.{all_are_least, claims_are_least, none_is_named, seen_is_claimed}
+use Rattle.hlc_log_report.proofs.CleanLogs.{all_are_least}
 use Rattle.hlc_log_report.proofs.EventsInOrder.{length-clocks_of, length-skeleton_of}
 use Rattle.hlc_log_report.proofs.Ordering.{claimed_at, order_len}
 use Rattle.hlc_log_text.specs.StampForms.{greatest_c}
 use Rattle.hlc_log_audit.specs.Audit.{BreaksOrder, ClaimsOver, ExceedsLimit, IsBroken, IsOutOfOrder}
 use Rattle.hlc_log_audit.specs.Laws.{LeastStampsAreSound, LeastStampsReportClean}
-use Rattle.hlc_log_audit.specs.Report.{AreCauses, AreCountsOf, cause_rows, cause_rows_at, count_row, count_rows, joined, message_row, node_rows, wrong_row}
+use Rattle.hlc_log_audit.specs.Report.{AreCauses, cause_rows, cause_rows_at, count_row, count_rows, joined, message_row, node_rows, wrong_row}
 use Rattle.hlc_log_audit.specs.declared.outcome.Outcome.TheVariants as outcome
 use Rattle.hlc_log_audit.proofs.CauseRows.{no_rows}
+use Rattle.hlc_log_audit.proofs.EventsInOrder.{same_causes}
+use Rattle.hlc_log_audit.proofs.LeastStamps.{none_broken}
+use Rattle.hlc_log_audit.proofs.OverLimits.{claim_is_told}
 
 module _ (log : LogInOrder) (ordered : IsInOrder log) (same : claimed_of log ≡ log.least) (right : IsCarriedRightly log) (full : ℕ) where
-  kept : (k : ℕ) → k < length (clocks_of log) → NamesCauses (clocks_of log) (seen_of log k) full k no_causes
-  kept k exists =
-      subst (λ (pairs : List Pair). NamesCauses (clocks_of log) pairs full k no_causes) (sym (seen_is_claimed log ordered right k exists))
-      (none_is_named (clocks_of log) (claimed_of log) (claims_are_least log ordered same) full k exists)
+  kept : (k : ℕ) → k < length log.order → NamesCausesIn log full k no_causes
+  kept k within = none_broken log ordered right same full k within
 
   -- the counts
-  counted_least : (counts : Counts) → AreCountsOf log full counts → counts ≡ record no_findings { least = length log.events }
-  counted_least counts are =
-      let size = length-clocks_of log ∙ length-skeleton_of log ordered in
-      let claimed : AreCounted (clocks_of log) (seen_of log) (claimed_of log) full counts =
-      subst (λ (least : List Pair). AreCounted (clocks_of log) (seen_of log) least full counts) (sym same) are in
-      all_are_least (clocks_of log) (claimed_of log) (claims_are_least log ordered same) full (seen_of log) (seen_is_claimed log ordered right) counts claimed
-      ∙ ap (λ (n : ℕ). record no_findings { least = n }) size
+  counted_least : (counts : Counts) → AreCounted log full counts → counts ≡ record no_findings { least = told_count log }
+  counted_least counts are = all_are_least log ordered same right full counts are
 
   least_rows : (n : ℕ) → count_rows (record no_findings { least = n }) ≡ count_row (codes "least") n
   least_rows n = append-nil (count_row (codes "least") n)
@@ -48,11 +44,8 @@ module _ (log : LogInOrder) (ordered : IsInOrder log) (same : claimed_of log ≡
   none_found : (causes : List Causes) → AreCauses log full causes → (e : ℕ) → e < length log.events → slice_index_or causes e no_causes ≡ no_causes
   none_found causes are e exists =
       let at = place_in_order log.events log.order e (ordered.causal.all e exists) in
-      let size = length-skeleton_of log ordered in
-      let places = order_len log.events log.order ordered.causal in
-      let there : at.0 < length (clocks_of log) = omega (arith, at.1, size, places, length-clocks_of log) in
-      causes_are_unique (clocks_of log) (seen_of log at.0) full at.0 (slice_index_or causes e no_causes) no_causes there (are.each e exists at.0 at.1 at.2)
-      (kept at.0 there)
+      let there : at.0 < length (clocks_of log) = omega (arith, at.1, length-clocks_of log, length-skeleton_in log.events log.order ordered.causal) in
+      same_causes log full at.0 there (slice_index_or causes e no_causes) no_causes (are.each e exists at.0 at.1 at.2) (kept at.0 at.1)
 
   no_cause_is_told : (nodes : List (List ℕ)) (causes : List Causes) → AreCauses log full causes → cause_rows nodes log causes ≡ []
   no_cause_is_told nodes causes are =
@@ -61,13 +54,13 @@ module _ (log : LogInOrder) (ordered : IsInOrder log) (same : claimed_of log ≡
       let at = place_of_index log.events log.order ordered.causal e exists in
       ap (cause_rows_at nodes log e) (none_found causes are e exists) ∙ ap (wrong_row nodes log e) (right (index_in log.order e) at.0))
 
-  none_out_of_order : (k : ℕ) → k < length (clocks_of log) → ¬ IsOutOfOrder log full k
+  none_out_of_order : (k : ℕ) → k < length log.order → ¬ IsOutOfOrder log full k
   none_out_of_order k exists (inl behind) = let both = (kept k exists Behind).1 behind in cc
   none_out_of_order k exists (inr (d, inl previous)) = let both = (kept k exists (NotAbovePrevious d)).1 previous in cc
   none_out_of_order k exists (inr (d, inr send)) = let both = (kept k exists (NotAboveSend d)).1 send in cc
 
   pub order_is_kept : ¬ BreaksOrder log full
-  order_is_kept (k, exists, broken) = none_out_of_order k (omega (arith, exists, length-clocks_of log)) broken
+  order_is_kept (k, within, broken) = none_out_of_order k within broken
 
   pub nothing_is_broken : ¬ IsBroken log full
   nothing_is_broken (inl order) = order_is_kept order
@@ -83,8 +76,8 @@ least_stamps_report_clean nodes log full rows ordered same right report =
           report.rows_are
           ∙ ap (λ (counts : Counts). count_rows counts ++ rest (cause_rows nodes log report.causes))
           (counted_least log ordered same right full report.counts report.counted)
-          ∙ ap (λ (counts : List Fields). counts ++ rest (cause_rows nodes log report.causes)) (least_rows log ordered same right full (length log.events))
-          ∙ ap (λ (causes : List Fields). count_row (codes "least") (length log.events) ++ rest causes)
+          ∙ ap (λ (counts : List Fields). counts ++ rest (cause_rows nodes log report.causes)) (least_rows log ordered same right full (told_count log))
+          ∙ ap (λ (causes : List Fields). count_row (codes "least") (told_count log) ++ rest causes)
           (no_cause_is_told log ordered same right full nodes report.causes report.are_causes);
     }
 
@@ -100,7 +93,15 @@ claimed_within log ordered same (Some limit) (e, over) =
     ap (λ (pairs : List Pair). (pair_at pairs at.0).l) (sym same)
     ∙ ap (λ (p : Pair). p.l) (claimed_at log.events log.order at.0 at.1)
     ∙ ap (λ (place : ℕ). (event_at log.events place).stamp.l) at.2 in
-    (at.0, (omega (arith, at.1), omega (arith, over.1, reading, l)))
+    let event = event_at log.events e in
+    let ahead = claim_is_told event limit over.1 in (
+      at.0,
+      record {
+        exists = omega (arith, at.1);
+        is_told = ap (λ (place : ℕ). (event_at log.events place).has_reading) at.2 ∙ ahead.0;
+        beyond = omega (arith, ahead.2, reading, l);
+      },
+    )
 
 pub least_stamps_are_sound : LeastStampsAreSound
 least_stamps_are_sound log rules outcome.Sound ordered same right within told = refl

@@ -1,6 +1,7 @@
 -- The events of a log in order, and those that answers name.
-use Rattle.std.proofs.Common.{◌≡◌, ◌∙◌, Bool, true, false, cond, ℕ, ◌<◌, List, length, Option, Some, None, arith, refl, subst, sym, ap}
+use Rattle.std.proofs.Common.{◌≡◌, ◌∙◌, Bool, true, false, cond, ℕ, ◌<◌, inl, inr, List, length, Option, Some, None, arith, refl, subst, sym, ap}
 use Rattle.std.specs.Prelude.{IfSome}
+use Rattle.std.proofs.lemmas.Bool.{cases_Bool}
 use Rattle.hlc_stamp.specs.declared.id.EventId.{EventId}
 use Rattle.hlc_stamp.specs.Order.{Pair}
 use Rattle.hlc_causality.specs.Assignment.{pair_at}
@@ -9,14 +10,17 @@ use Rattle.hlc_causality.specs.ClockEvents.{ClockEvents, clock_event_at, clock_s
 use Rattle.hlc_causality.specs.Predecessors.{previous_of, send_of}
 use Rattle.hlc_causality.proofs.ClockEvents.{skeleton_size}
 use Rattle.hlc_causality.proofs.PredecessorsFound.{previous_found, send_found}
-use Rattle.hlc_causes.specs.Causes.{IsNotAbovePrevious, IsNotAboveSend, NamesCauses}
+use Rattle.hlc_causes.specs.Causes.{IsNotAbovePrevious, IsNotAboveSend, no_causes}
+use Rattle.hlc_causes.proofs.CauseLaws.{causes_are_named, causes_are_unique}
 use Rattle.hlc_causes.specs.declared.answers.Causes.{Causes}
 use Rattle.hlc_causes.specs.declared.answers.Cause.TheVariants as cause
 use Rattle.hlc_causes.specs.Verdicts.{follows, if_not_above}
 use Rattle.hlc_causes.proofs.Disorder.{some_is_so}
 use Rattle.hlc_log.specs.CausalOrder.{place_at}
 use Rattle.hlc_log.proofs.OrderSkeletons.{same_position}
-use Rattle.hlc_log_report.specs.InOrder.{IsInOrder, LogInOrder, carried_of, claimed_of, clocks_of, reading_told, seen_of, skeleton_of, wrong_of}
+use Rattle.hlc_log_report.specs.Found.{NamesCausesIn}
+use Rattle.hlc_log_report.specs.InOrder.{IsInOrder, LogInOrder, carried_of, claimed_of, clocks_of, reading_told, seen_of, skeleton_of, stamp_told, wrong_of}
+use Rattle.hlc_log_report.proofs.Found.{all_if_told, none_if_untold, told_has_all, untold_has_none}
 use Rattle.hlc_causes.specs.Seen.{wrong_among}
 use Rattle.hlc_causality.specs.FollowedClockChains.{is_same_pair}
 use Rattle.hlc_log_report.specs.Skew.{NamesSkewBefore}
@@ -56,27 +60,43 @@ if_found : {P : EventId → Type 0} (o : Option EventId) → ((d : EventId) → 
 if_found None each = tt
 if_found (Some d) each = each d refl
 
+-- each event has its causes, and one answer tells them
+module _ (log : LogInOrder) (full k : ℕ) (exists : k < length (clocks_of log)) where
+  pub causes_in : (causes : Causes) × NamesCausesIn log full k causes
+  causes_in = elim (cases_Bool (stamp_told log k)) [
+    | inl told ↦
+        let answer = causes_are_named (clocks_of log) (seen_of log k) full k exists in
+        (answer.0, told_has_all log full k answer.0 told answer.1)
+    | inr untold ↦ (no_causes, untold_has_none log full k no_causes refl untold)
+  ]
+
+  pub same_causes : (a b : Causes) → NamesCausesIn log full k a → NamesCausesIn log full k b → a ≡ b
+  same_causes a b is other = elim (cases_Bool (stamp_told log k)) [
+    | inl told ↦
+        causes_are_unique (clocks_of log) (seen_of log k) full k a b exists (all_if_told log full k a told is) (all_if_told log full k b told other)
+    | inr untold ↦ none_if_untold log full k a untold is ∙ sym (none_if_untold log full k b untold other)
+  ]
+
 module _ (log : LogInOrder) (ordered : IsInOrder log) where
   -- the answer for a position is that for its place
   pub names_causes_at : (full e p : ℕ) (found : Causes) → p < length log.events → place_at log.order p ≡ e
-      → NamesCauses (clocks_of log) (seen_of log p) full p found → NamesCausesAt log full e found
+      → NamesCausesIn log full p found → NamesCausesAt log full e found
   names_causes_at full e p found exists at names k within here =
       let size = order_len log.events log.order ordered.causal in
       let same : p ≡ k = same_position log.events log.order ordered.causal p k (omega arith) within (at ∙ sym here) in
-      subst (λ (j : ℕ). NamesCauses (clocks_of log) (seen_of log j) full j found) same names
+      subst (λ (j : ℕ). NamesCausesIn log full j found) same names
 
   -- and names events
-  pub names_events : (full p : ℕ) (found : Causes) → p < length log.events
-      → NamesCauses (clocks_of log) (seen_of log p) full p found → NameEvents log found
+  pub names_events : (full p : ℕ) (found : Causes) → p < length log.events → NamesCausesIn log full p found → NameEvents log found
   names_events full p found exists names =
       let size = length-skeleton_of log ordered in
       let there : p < length (clocks_of log) = omega (arith, exists, size, length-clocks_of log) in
       record {
         previous = if_found found.not_above_previous (λ d is.
-            let earlier = previous_is_earlier (clocks_of log) (seen_of log p) p there d.0 ((names (cause.NotAbovePrevious d)).0 is) in
+            let earlier = previous_is_earlier (clocks_of log) (seen_of log p) p there d.0 ((names (cause.NotAbovePrevious d)).0 is).1 in
             omega arith);
         send = if_found found.not_above_send (λ d is.
-            let earlier = send_is_earlier (clocks_of log) (seen_of log p) p there d.0 ((names (cause.NotAboveSend d)).0 is) in
+            let earlier = send_is_earlier (clocks_of log) (seen_of log p) p there d.0 ((names (cause.NotAboveSend d)).0 is).1 in
             omega arith);
       }
 

@@ -9,7 +9,6 @@ pub mod Found
 pub mod LeastStamps
 pub mod LineFacts
 pub mod LinesKept
-pub mod NodeCounts
 pub mod OverLimits
 pub mod OverRows
 pub mod ReorderedAnswers
@@ -19,5 +18,7 @@ pub mod SameAudits
 pub mod SameOutcomes
 pub mod SameReports
 pub mod SkewRows
+pub mod Tallies
 pub mod Telling
+pub mod ToldDrifts
 pub mod Ways

@@ -1,7 +1,7 @@
 -- What of a node's claims is over a limit, event by event.
-use Rattle.std.proofs.Common.{◌≡◌, ◌≢◌, ◌∙◌, Bool, true, false, if◌then◌else◌, ℕ, ◌+◌, ◌==◌, ◌<◌, ◌≤◌, inl, inr, List, length, replicate, Option, Some, None, arith, refl, subst, sym, ap}
-use Rattle.std.specs.Prelude.{nat_le, nat_lt, slice_index_or, slice_set, take}
-use Rattle.std.proofs.lemmas.Bool.{cases_Bool, cases_eq, cases_order, eq-eqb, le-ltb, leb-false, leb-true, lt-ltb, ne_eqb}
+use Rattle.std.proofs.Common.{◌≡◌, ◌≢◌, ◌∙◌, Bool, true, false, if◌then◌else◌, ℕ, ◌+◌, ◌-◌, ◌==◌, ◌<◌, ◌≤◌, inl, inr, List, length, replicate, Option, Some, None, arith, refl, subst, sym, ap}
+use Rattle.std.specs.Prelude.{◌&&◌, nat_le, nat_lt, slice_index_or, slice_set, take}
+use Rattle.std.proofs.lemmas.Bool.{and_from, and_parts, cases_Bool, cases_eq, cases_order, eq-eqb, le-ltb, leb-false, leb-true, lt-ltb, ne_eqb}
 use Rattle.std.proofs.lemmas.List.{get_or-replicate, get_or-set_other, get_or-set_same, length-replicate, length-set, length-take}
 use Rattle.std.proofs.lemmas.List.Sums.{count_by-le-length, count_by_more_no, count_by_more_yes}
 use Rattle.hlc_stamp.specs.declared.id.EventId.{EventId}
@@ -21,6 +21,22 @@ first_fails a b fails = ap (λ (x : Bool). if x then b else false) fails
 
 both_hold : (a b : Bool) → a ≡ true → b ≡ true → (if a then b else false) ≡ true
 both_hold a b first second = ap (λ (x : Bool). if x then b else false) first ∙ second
+
+-- what is over a limit is told
+told_above : (told : Bool) (n limit : ℕ) → limit < (if told then n else 0) → (told ≡ true) × (limit < n)
+told_above true n limit lt = (refl, lt)
+told_above false n limit lt = absurd (omega arith)
+
+pub claim_is_told : (event : LogEvent) (limit : ℕ) → limit < claimed_ahead event
+    → (event.has_reading ≡ true) × (event.has_stamp ≡ true) × (limit < event.stamp.l - event.reading)
+claim_is_told event limit over =
+    let above = told_above (event.has_reading && event.has_stamp) (event.stamp.l - event.reading) limit over in
+    let told = and_parts event.has_reading event.has_stamp above.0 in
+    (told.0, told.1, above.1)
+
+pub told_claim : (event : LogEvent) → event.has_reading ≡ true → event.has_stamp ≡ true → claimed_ahead event ≡ event.stamp.l - event.reading
+told_claim event reading stamp =
+    ap (λ (told : Bool). if told then event.stamp.l - event.reading else 0) (and_from event.has_reading event.has_stamp reading stamp)
 
 module _ (limit : ℕ) (events : List LogEvent) where
   -- no more claims than events

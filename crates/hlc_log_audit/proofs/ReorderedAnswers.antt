@@ -1,31 +1,34 @@
 -- Reordered logs have the same ways and drifts.
 use Rattle.std.proofs.Common.{◌≡◌, ◌∙◌, Bool, true, false, cond, ℕ, zero, suc, ◌==◌, ◌<◌, inl, inr, List, [], ◌∷◌, ◌++◌, length, map, Option, Some, None, arith, refl, sym, ap}
-use Rattle.std.specs.Prelude.{MatchOption, nat_lt, option_map}
+use Rattle.std.specs.Prelude.{nat_lt, option_map}
 use Rattle.std.proofs.lemmas.List.{map-append}
 use Rattle.hlc_stamp.specs.Order.{Pair}
 use Rattle.hlc_causality.specs.Assignment.{pair_at}
-use Rattle.hlc_causality.specs.Causality.{IsPrevious, IsSendOf, Skeleton}
+use Rattle.hlc_causality.specs.Causality.{IsEarlierAtNode, IsPrevious, IsSendOf, Skeleton}
 use Rattle.hlc_causality.specs.ClockEvents.{ClockEvents, clock_skeleton}
-use Rattle.hlc_causality.specs.NodeEvents.{HasNoEvent}
+use Rattle.hlc_causality.specs.NodeEvents.{drift_at}
 use Rattle.hlc_causality.specs.Predecessors.{previous_of, send_of}
 use Rattle.hlc_causality.proofs.ClockEvents.{skeleton_size}
 use Rattle.hlc_causality.proofs.Predecessors.{direct_earlier, previous_is_unique, send_is_unique}
 use Rattle.hlc_causality.proofs.PredecessorsFound.{previous_found, send_found}
 use Rattle.hlc_explain.specs.declared.answers.Drift.{Drift}
-use Rattle.hlc_explain.specs.ClockFindings.{clock_node_drift}
-use Rattle.hlc_explain.specs.Drift.{IsClockDriftOf}
-use Rattle.hlc_explain.proofs.ClockFindings.{clock_drift_is, clock_drifts_are_found}
 use Rattle.hlc_causes.proofs.Disorder.{some_is_so}
+use Rattle.hlc_log.specs.CausalOrder.{place_at}
+use Rattle.hlc_log.specs.Events.{event_at}
 use Rattle.hlc_log.specs.Reordering.{HaveEqualPairs, IsClockReordering, IsReordering, IsSameNode}
 use Rattle.hlc_log.proofs.ClockReorderedChains.{chain_kept}
-use Rattle.hlc_log.proofs.Reorderings.{drift_kept, event_returned, furthest_ahead_kept}
-use Rattle.hlc_log_report.specs.InOrder.{claimed_of, clocks_of, skeleton_of}
-use Rattle.hlc_log_report.specs.Reordered.{moved_position}
+use Rattle.hlc_log.proofs.OrderSkeletons.{length-skeleton_in, place_exists}
+use Rattle.hlc_log.proofs.Reorderings.{drift_kept, earlier_returned, event_returned}
+use Rattle.hlc_log_report.specs.InOrder.{LogInOrder, claimed_of, clocks_of, reading_told, skeleton_of}
+use Rattle.hlc_log_report.specs.Laws.{KeepsTold}
+use Rattle.hlc_log_report.specs.Reordered.{TellTheSame, moved_position}
 use Rattle.hlc_log_report.proofs.EventsInOrder.{length-clocks_of}
-use Rattle.hlc_log_report.proofs.ReorderedTraces.{claims_moved, cond_moved, least_moved, logs_are_reordered_traces, previous_exists, previous_moved, seen, send_exists, send_moved, skeletons_moved}
+use Rattle.hlc_log_report.proofs.ReorderedTraces.{claims_moved, cond_moved, least_moved, logs_are_reordered_traces, moved_there, previous_exists, previous_moved, seen, send_exists, send_moved, skeletons_moved}
 use Rattle.hlc_log_audit.specs.ClaimedWay.{claimed_way, greater_c, if_same_l, source_of}
 use Rattle.hlc_log_audit.specs.Laws.{DriftsAgree, ReorderingKeepsDrifts, ReorderingKeepsWays, WaysAgree}
 use Rattle.hlc_log_audit.specs.Moved.{moved_drift}
+use Rattle.hlc_log_audit.specs.ToldDrift.{IsFurthestTold, IsToldOf, NamesToldDrift, told_drift}
+use Rattle.hlc_log_audit.proofs.ToldDrifts.{told_drift_found, told_drift_is}
 use Rattle.hlc_log_audit.proofs.Ways.{IsSo, so_found, source_earlier, way_end, way_step}
 
 one_moved : (to : ℕ → ℕ) (test : Bool) (d e : ℕ) → cond test (Some (to e)) (Some (to d)) ≡ option_map to (cond test (Some e) (Some d))
@@ -108,29 +111,77 @@ ways_agree log other to back h k lt =
 -- drifts
 module _ (s r : Skeleton) (t u : ClockEvents) (pairs others : List Pair) (to back : ℕ → ℕ) (h : IsReordering s r to back)
     (clocks : IsClockReordering t u to back) (size : length t ≡ length s) (equal : HaveEqualPairs s to pairs others)
-    (a b : ℕ) (same : IsSameNode s r to a b) where
+    (told other_told : ℕ → Bool) (keeps : KeepsTold s to told other_told) (a b : ℕ) (same : IsSameNode s r to a b) where
   clock_equal : HaveEqualPairs (clock_skeleton t) to pairs others
   clock_equal e lt = equal e (omega (arith, lt, size, skeleton_size t))
 
-  node_drift_kept : (found : Option Drift) → MatchOption found (HasNoEvent s a) (λ drift. IsClockDriftOf s t pairs a drift)
-      → MatchOption (option_map (moved_drift to) found) (HasNoEvent r b) (λ drift. IsClockDriftOf r u others b drift)
-  node_drift_kept None none = λ e event. none (back e) (event_returned s r to back h pairs others equal a b same e event)
+  told_kept : (e : ℕ) → IsToldOf s told a e → IsToldOf r other_told b (to e)
+  told_kept e at = record {
+    event = record { exists = h.there.exists e at.event.exists; at_node = (same e at.event.exists).0 at.event.at_node };
+    is_told = keeps e at.event.exists ∙ at.is_told;
+  }
+
+  told_returned : (e : ℕ) → IsToldOf r other_told b e → IsToldOf s told a (back e)
+  told_returned e at =
+      let event = event_returned s r to back h pairs others equal a b same e at.event in
+      record {
+        event = event;
+        is_told = sym (keeps (back e) event.exists) ∙ ap other_told (h.back_there e at.event.exists) ∙ at.is_told;
+      }
+
+  drift_there : (e : ℕ) → e < length r → drift_at s pairs (back e) ≡ drift_at r others e
+  drift_there e exists =
+      drift_kept s r to back h pairs others equal (back e) (h.here.exists e exists) ∙ ap (drift_at r others) (h.back_there e exists)
+
+  furthest_kept : (e : ℕ) → IsFurthestTold s told pairs a e → IsFurthestTold r other_told others b (to e)
+  furthest_kept e furthest =
+      let here = furthest.event in
+      let own = drift_kept s r to back h pairs others equal e here.event.exists in
+      record {
+        event = told_kept e here;
+        none_greater = λ d at.
+            let drift = drift_there d at.event.exists in
+            let le = furthest.none_greater (back d) (told_returned d at) in
+            omega arith;
+        first = λ d at lt.
+            let drift = drift_there d at.event.exists in
+            let there = told_kept e here in
+            let earlier : IsEarlierAtNode r d (to e) =
+            record { earlier = lt; exists = there.event.exists; same_node = at.event.at_node ∙ sym there.event.at_node } in
+            let before = earlier_returned s r to back h d e here.event.exists earlier in
+            let less = furthest.first (back d) (told_returned d at) before.earlier in
+            omega arith;
+      }
+
+  node_drift_kept : (found : Option Drift) → NamesToldDrift s t told pairs a found
+      → NamesToldDrift r u other_told others b (option_map (moved_drift to) found)
+  node_drift_kept None none = λ e at. none (back e) (told_returned e at)
   node_drift_kept (Some drift) is =
       let e = drift.event.0 in
       record {
-        furthest = furthest_ahead_kept s r to back h pairs others equal a b same e is.furthest;
-        ahead = is.ahead ∙ drift_kept s r to back h pairs others equal e is.furthest.event.exists;
+        furthest = furthest_kept e is.furthest;
+        ahead = is.ahead ∙ drift_kept s r to back h pairs others equal e is.furthest.event.event.exists;
         origin = (map to is.origin.0, chain_kept t u to back clocks pairs others clock_equal e (drift.origin.0 ∷ is.origin.0) is.origin.1);
       }
 
 pub reordering_keeps_drifts : ReorderingKeepsDrifts
-reordering_keeps_drifts s r t u pairs others to back h clocks size other_size equal a b same =
-    let found = clock_node_drift s t pairs a in
-    sym (clock_drift_is r u others b other_size (option_map (moved_drift to) found)
-    (node_drift_kept s r t u pairs others to back h clocks size equal a b same found (clock_drifts_are_found s t pairs a size)))
+reordering_keeps_drifts s r t u pairs others to back h clocks size other_size equal told other_told keeps a b same =
+    sym (told_drift_is r other_told others b u other_size (option_map (moved_drift to) (told_drift s t told pairs a))
+    (node_drift_kept s r t u pairs others to back h clocks size equal told other_told keeps a b same (told_drift s t told pairs a)
+    (told_drift_found s told pairs a t size)))
+
+-- two logs that tell the same tell the same readings
+pub told_moved : (log other : LogInOrder) (to back : ℕ → ℕ) → TellTheSame log other to back
+    → KeepsTold (skeleton_of log) (moved_position log other to) (reading_told log) (reading_told other)
+told_moved log other to back h k lt =
+    let within : k < length log.order = omega (arith, lt, length-skeleton_in log.events log.order h.ordered.causal) in
+    let place = place_at log.order k in
+    ap (λ (e : ℕ). (event_at other.events e).has_reading) (moved_there log other to back h k within).1
+    ∙ h.events.there.has_reading place (place_exists log.events log.order h.ordered.causal k within)
 
 pub drifts_agree : DriftsAgree
 drifts_agree log other to back h a b same =
     reordering_keeps_drifts (skeleton_of log) (skeleton_of other) (clocks_of log) (clocks_of other) log.least other.least
     (moved_position log other to) (moved_position other log back) (skeletons_moved log other to back h)
-    (logs_are_reordered_traces log other to back h).events (length-clocks_of log) (length-clocks_of other) (least_moved log other to back h) a b same
+    (logs_are_reordered_traces log other to back h).events (length-clocks_of log) (length-clocks_of other) (least_moved log other to back h)
+    (reading_told log) (reading_told other) (told_moved log other to back h) a b same

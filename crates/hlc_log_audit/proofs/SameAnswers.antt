@@ -27,10 +27,8 @@ use Rattle.hlc_explain.specs.Findings.{IsRelationOf, influenced_by, relation_of}
 use Rattle.hlc_explain.specs.Words.{relation_word}
 use Rattle.hlc_explain.specs.declared.answers.Drift.{Drift}
 use Rattle.hlc_explain.specs.declared.answers.Relation.{Relation}
-use Rattle.hlc_explain.proofs.ClockFindings.{clock_drifts_are_found}
 use Rattle.hlc_explain.proofs.Findings.{influenced_are_found, relation_is, relations_are_found, rising_is_unique}
 use Rattle.hlc_verdict.specs.declared.verdict.Verdict.TheVariants as verdict
-use Rattle.hlc_causes.specs.Causes.{NamesFinding}
 use Rattle.hlc_causes.specs.declared.answers.Finding.{Finding}
 use Rattle.hlc_causes.specs.declared.answers.Finding.TheVariants.{Judged, RolledOver}
 use Rattle.hlc_csv.specs.Rows.{Fields, yes_or_no}
@@ -42,12 +40,14 @@ use Rattle.hlc_log.proofs.CausalOrders.{place_in_order}
 use Rattle.hlc_log.proofs.OrderSkeletons.{place_exists, same_position, skeleton_in_at}
 use Rattle.hlc_log.proofs.ClockReorderedChains.{clock_reordering_keeps_chains}
 use Rattle.hlc_log.proofs.Reorderings.{direct_kept, reordering_keeps_happened_before}
-use Rattle.hlc_log_report.specs.InOrder.{IsInOrder, LogInOrder, claimed_of, clocks_of, event_in_order, line_in, seen_of, skeleton_of}
+use Rattle.hlc_log_report.specs.Found.{FindsAt}
+use Rattle.hlc_log_report.specs.InOrder.{IsInOrder, LogInOrder, claimed_of, clocks_of, event_in_order, line_in, skeleton_of}
 use Rattle.hlc_log_report.specs.Moved.{moved_finding}
 use Rattle.hlc_log_report.specs.Reordered.{IsRearranged, TellTheSame, moved_position}
 use Rattle.hlc_log_report.proofs.EventsInOrder.{length-clocks_of, length-skeleton_of}
 use Rattle.hlc_log_report.proofs.Ordering.{order_len}
-use Rattle.hlc_log_report.proofs.Rearranged.{event_moved, in_the_order, moved, moved_exists, one_finding, one_log, reordered, same_size, same_tests, tell_the_same}
+use Rattle.hlc_log_report.proofs.Rearranged.{event_moved, in_the_order, moved, moved_exists, one_log, reordered, same_size, same_tests, tell_the_same}
+use Rattle.hlc_log_report.proofs.Found.{one_found}
 use Rattle.hlc_log_report.proofs.SeenTraces.{findings_agree}
 use Rattle.hlc_log_report.proofs.ReorderedTraces.{claims_moved, least_moved, logs_are_reordered_traces, moved_there}
 use Rattle.hlc_log_text.specs.Labels.{label_at}
@@ -58,7 +58,7 @@ use Rattle.hlc_log_audit.specs.ClaimedWay.{claimed_way}
 use Rattle.hlc_log_audit.specs.Laws.{AnswersAgree}
 use Rattle.hlc_log_audit.specs.Lines.{HasNumbers, IsOnLine, LinesRise, position_on, position_or_end}
 use Rattle.hlc_log_audit.specs.Moved.{moved_drift}
-use Rattle.hlc_causes.specs.Words.{finding_word}
+use Rattle.hlc_log_audit.specs.Words.{found_word}
 use Rattle.hlc_log_audit.proofs.DriftEvents.{drift_event_exists, drift_origin_exists}
 use Rattle.hlc_log_audit.proofs.Found.{influenced_within}
 use Rattle.hlc_log_audit.proofs.LineFacts.{on_line, one_on_line, position_of_found, position_of_none}
@@ -97,10 +97,8 @@ module _ (log other : LogInOrder) (to back : ℕ → ℕ) (h : IsRearranged log 
 
   pub same_drift : (node : ℕ) → drift_fields other (drift_in other node) ≡ drift_fields log (drift_in log node)
   same_drift node =
-      let found = drift_in log node in
-      let is = clock_drifts_are_found (skeleton_of log) (clocks_of log) log.least node (length-clocks_of log) in
       ap (drift_fields other) (drifts_agree log other to back (tell_the_same log other to back h) node node (same_node node))
-      ∙ drift_fields_moved found (drift_event_exists log h.ordered node found is) (drift_origin_exists log h.ordered node found is)
+      ∙ drift_fields_moved (drift_in log node) (drift_event_exists log h.ordered node) (drift_origin_exists log h.ordered node)
 
   -- the lines of events
   pub lines_moved : (events : List ℕ) → All (λ (k : ℕ). k < length (skeleton_of log)) events → map (line_in other) (map to_there events) ≡ map (line_in log) events
@@ -124,13 +122,14 @@ mapped_contains f xs x (k, lt, is) =
 contained_within : (n : ℕ) (xs : List ℕ) (x : ℕ) → All (λ (k : ℕ). k < n) xs → Contains xs x → x < n
 contained_within n xs x within (k, lt, is) = subst (λ (y : ℕ). y < n) is (within k x lt)
 
-word_kept : (to : ℕ → ℕ) (found : Finding) → finding_word (moved_finding to found) ≡ finding_word found
-word_kept to RolledOver = refl
-word_kept to (Judged verdict.Behind) = refl
-word_kept to (Judged (verdict.NotAbove d)) = refl
-word_kept to (Judged (verdict.Low p)) = refl
-word_kept to (Judged verdict.Least) = refl
-word_kept to (Judged (verdict.Ahead p)) = refl
+word_kept : (to : ℕ → ℕ) (found : Option Finding) → found_word (option_map (moved_finding to) found) ≡ found_word found
+word_kept to None = refl
+word_kept to (Some RolledOver) = refl
+word_kept to (Some (Judged verdict.Behind)) = refl
+word_kept to (Some (Judged (verdict.NotAbove d))) = refl
+word_kept to (Some (Judged (verdict.Low p))) = refl
+word_kept to (Some (Judged verdict.Least)) = refl
+word_kept to (Some (Judged (verdict.Ahead p))) = refl
 
 leads_within : (s : Skeleton) (e : ℕ) (rest : List ℕ) (f : ℕ) → LeadsTo s e rest f → All (λ (k : ℕ). k < length s) rest
 leads_within s e [] f h = All-nil (λ (k : ℕ). k < length s)
@@ -318,8 +317,7 @@ module _ (log other : LogInOrder) (ordered : IsInOrder log) (other_ordered : IsI
 
   -- what is known of an event
   module _ (nodes : List (List ℕ)) (labels : List (ℕ × List ℕ)) (full line k : ℕ) (lt : k < length s) where
-    event_row : (found other_found : Finding) → NamesFinding (clocks_of log) (seen_of log k) log.least full k found
-        → NamesFinding (clocks_of other) (seen_of other (there k)) other.least full (there k) other_found
+    event_row : (found other_found : Option Finding) → FindsAt log full k found → FindsAt other full (there k) other_found
         → event_fields_at nodes labels other line (there k) other_found ≡ event_fields_at nodes labels log line k found
     event_row found other_found names other_names =
         let row : LogEvent → Pair → List ℕ → ℕ → Fields = λ event least word place.
@@ -328,14 +326,14 @@ module _ (log other : LogInOrder) (ordered : IsInOrder log) (other_ordered : IsI
         let event = event_in_order log.events log.order k in
         let other_event = event_in_order other.events other.order (there k) in
         let least = pair_at log.least k in
-        let moves : other_found ≡ moved_finding there found =
-        one_finding (clocks_of other) (seen_of other (there k)) other.least full (there k) other_found (moved_finding there found) other_names
+        let moves : other_found ≡ option_map (moved_finding there) found =
+        one_found other full (there k) other_found (option_map (moved_finding there) found) other_names
         (findings_agree log other itself itself (tell_the_same log other itself itself one) full k found (in_order k lt) names) in
-        ap (λ (x : LogEvent). row x (pair_at other.least (there k)) (finding_word other_found) (place_at other.order (there k)))
+        ap (λ (x : LogEvent). row x (pair_at other.least (there k)) (found_word other_found) (place_at other.order (there k)))
         (event_moved log other itself itself one k lt)
-        ∙ ap (λ (p : Pair). row event p (finding_word other_found) (place_at other.order (there k))) (sym (equal_least k lt))
-        ∙ ap (λ (w : List ℕ). row event least w (place_at other.order (there k))) (ap finding_word moves ∙ word_kept there found)
-        ∙ ap (λ (e : ℕ). row event least (finding_word found) e) (there_is k lt)
+        ∙ ap (λ (p : Pair). row event p (found_word other_found) (place_at other.order (there k))) (sym (equal_least k lt))
+        ∙ ap (λ (w : List ℕ). row event least w (place_at other.order (there k))) (ap found_word moves ∙ word_kept there found)
+        ∙ ap (λ (e : ℕ). row event least (found_word found) e) (there_is k lt)
 
   -- lines that rise
   one_line : (j k : ℕ) → j < length s → k < length s → line_in log j ≡ line_in log k → j ≡ k

@@ -1,5 +1,5 @@
 -- Two audits of one log leave the same.
-use Rattle.std.proofs.Common.{◌≡◌, ◌∙◌, ◌⊎◌, Bool, true, false, ℕ, ◌≤◌, inl, inr, List, [], ◌∷◌, ◌++◌, length, Option, Some, append-nil, refl, subst, sym, ap}
+use Rattle.std.proofs.Common.{◌≡◌, ◌∙◌, ◌⊎◌, Bool, true, false, ℕ, ◌≤◌, inl, inr, List, [], ◌∷◌, ◌++◌, length, Option, Some, append-nil, arith, refl, subst, sym, ap}
 use Rattle.std.proofs.lemmas.Bool.{cases_order}
 use Rattle.hlc_stamp.specs.declared.limits.TheConstants.{MAX_NODES}
 use Rattle.hlc_csv.specs.Rows.{Fields, text_of, text_of_row}
@@ -16,8 +16,10 @@ use Rattle.hlc_log_text.specs.StampForms.{greatest_c}
 use Rattle.hlc_log_text.specs.declared.log_text.LogText.{LogText}
 use Rattle.hlc_log_text.specs.declared.question.LogQuestion.{LogQuestion}
 use Rattle.hlc_log_audit.specs.Answers.{AreAnswers}
-use Rattle.hlc_log_report.specs.InOrder.{IsInOrder, LogInOrder}
-use Rattle.hlc_log_report.proofs.Rearranged.{one_log, tell_the_same}
+use Rattle.hlc_log_report.specs.InOrder.{AreFilled, IsInOrder, LogInOrder, filled_event}
+use Rattle.hlc_log_report.proofs.Filled.{filled_causal, filled_itself, filled_sound}
+use Rattle.hlc_log_report.proofs.GivenStamps.{filled_twice}
+use Rattle.hlc_log_report.proofs.Rearranged.{given_stamps_agree, one_log, tell_the_same}
 use Rattle.hlc_log_audit.specs.Lines.{LinesRise}
 use Rattle.hlc_log_audit.proofs.SameAnswers.{answers_agree}
 use Rattle.hlc_log_audit.specs.Audit.{IsReportIf, is_reported, AreRowsTold, IsFaultShown, IsTextAudited, IsTold, all_asked, audited_events, bad_row, order_fault_place, order_fault_word, unsent_of, missing_rows, unsent_row}
@@ -26,10 +28,22 @@ use Rattle.hlc_log_audit.specs.Report.{AreOverRows, IsReport}
 use Rattle.hlc_log_audit.specs.declared.outcome.Outcome.{Outcome}
 use Rattle.hlc_log_audit.specs.declared.outcome.Outcome.TheVariants as outcome
 use Rattle.hlc_log_audit.specs.declared.rules.AuditRules.{AuditRules}
-use Rattle.hlc_log_audit.proofs.LinesKept.{rise_kept}
+use Rattle.hlc_log_audit.proofs.LinesKept.{rise_filled, rise_kept}
 use Rattle.hlc_log_audit.proofs.OverRows.{same_over_rows}
 use Rattle.hlc_log_audit.proofs.SameOutcomes.{outcomes_agree}
 use Rattle.hlc_log_audit.proofs.SameReports.{reports_agree}
+
+-- filled events, with the stamps that they had
+pub unfilled : (events filled : List LogEvent) → AreFilled events filled → AreFilled filled events
+unfilled events filled are =
+    let size = are.one_each in
+    record {
+      one_each = sym size;
+      each = λ e lt.
+          let own = event_at events e in
+          sym (ap (λ (x : LogEvent). filled_event x own.stamp) (are.each e (omega arith))
+          ∙ filled_twice own (event_at filled e).stamp own.stamp ∙ filled_itself own);
+    }
 
 -- a log has one fault
 one_first : (P : ℕ → Type 0) (d e : ℕ) → IsFirst P d → IsFirst P e → d ≡ e
@@ -53,8 +67,8 @@ one_fault events (Cycle d) (Unsent e) a_other b_other p q = absurd (p.0.sent e.0
 one_fault events (Cycle d) (Cycle e) a_other b_other p q = ap (λ (n : ℕ). Cycle (record { 0 = n })) (one_first (Waits events) d.0 e.0 p.1 q.1)
 one_fault events (Cycle d) Memory a_other b_other p q = absurd (b_other refl)
 
--- if nothing is asked, the rows are the report, how many receives were taken as local, how many events have no reading, and which claims are over the
--- limit
+-- if nothing is asked, the rows are the report, how many receives were taken as local, of how many events something isn't told, and which claims are
+-- over the limit
 no_answers : (nodes : List (List ℕ)) (labels : List (ℕ × List ℕ)) (log : LogInOrder) (full : ℕ) (answers : List Fields)
     → AreAnswers nodes labels log full [] answers → answers ≡ []
 no_answers nodes labels log full [] are = refl
@@ -129,8 +143,9 @@ module _ (text : LogText) (rules : AuditRules) (asked : List LogQuestion) (few :
   not_both : (bytes other_bytes : List ℕ) (result : Outcome) → Leaves bytes result → IsBad other_bytes → ⊥
   not_both bytes other_bytes result told (fault, shown) =
       let log = told.log in
-      let is_fault : IsFaultOf log.events fault = subst (λ (es : List LogEvent). IsFaultOf es fault) (sym told.events) shown.is_fault in
-      faults_leave_no_order log.events fault is_fault shown.no_memory told.in_order.messages log.order told.in_order.causal
+      let back = unfilled events log.events told.events in
+      faults_leave_no_order events fault shown.is_fault shown.no_memory (filled_sound log.events events back told.in_order.messages) log.order
+      (filled_causal log.events events back log.order told.in_order.causal)
 
   bad_bytes : IsBad after → IsBad others → others ≡ after
   bad_bytes (fault, shown) (other_fault, other_shown) =
@@ -144,12 +159,13 @@ module _ (text : LogText) (rules : AuditRules) (asked : List LogQuestion) (few :
   told_same result other_result told other_told =
       let log = told.log in
       let other = other_told.log in
-      let same : other.events ≡ log.events = other_told.events ∙ sym told.events in
       let clocks : other.receives ≡ log.receives = other_told.receives ∙ sym told.receives in
+      let same : other.events ≡ log.events =
+      given_stamps_agree events log other clocks told.in_order other_told.in_order told.events other_told.events in
       let one = one_log log other clocks told.in_order other_told.in_order same in
       let full = greatest_c rules.records.form in
       let questions = all_asked text.questions.items asked in
-      let log_rise : LinesRise log.events = subst (λ (es : List LogEvent). LinesRise es) (sym told.events) (audited_rise rules text.log.events rise) in
+      let log_rise : LinesRise log.events = rise_filled events log.events told.events (audited_rise rules text.log.events rise) in
       let first = told.told in
       let second = other_told.told in
       let report =

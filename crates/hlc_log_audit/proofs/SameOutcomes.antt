@@ -1,16 +1,15 @@
 -- Logs that tell the same have the same outcome.
-use Rattle.std.proofs.Common.{◌≡◌, ◌∙◌, ◌↔◌, Bool, true, false, ℕ, ◌-◌, ◌<◌, inl, inr, length, Option, Some, None, ap, arith, refl, sym}
+use Rattle.std.proofs.Common.{◌≡◌, ◌∙◌, ◌↔◌, Bool, true, false, ℕ, ◌<◌, inl, inr, length, Option, Some, None, ap, arith, refl}
 use Rattle.std.specs.Prelude.{IsTrue, option_map}
 use Rattle.hlc_stamp.specs.Order.{Pair}
 use Rattle.hlc_causality.specs.NodeEvents.{drift_at}
 use Rattle.hlc_causes.specs.declared.answers.Cause.TheVariants.{Behind, NotAbovePrevious, NotAboveSend}
 use Rattle.hlc_causes.specs.declared.answers.Causes.{Causes}
-use Rattle.hlc_causes.specs.Causes.{NamesCauses}
-use Rattle.hlc_causes.proofs.CauseLaws.{causes_are_named}
 use Rattle.hlc_log.specs.Events.{event_at}
 use Rattle.hlc_log.proofs.Reorderings.{drift_kept}
 use Rattle.hlc_log_text.specs.StampForms.{greatest_c}
-use Rattle.hlc_log_report.specs.InOrder.{LogInOrder, clocks_of, seen_of, skeleton_of}
+use Rattle.hlc_log_report.specs.Found.{NamesCausesIn}
+use Rattle.hlc_log_report.specs.InOrder.{LogInOrder, clocks_of, skeleton_of}
 use Rattle.hlc_log_report.specs.Moved.{moved_causes, moved_event}
 use Rattle.hlc_log_report.specs.Reordered.{TellTheSame, moved_position}
 use Rattle.hlc_log_report.proofs.EventsInOrder.{length-clocks_of}
@@ -19,7 +18,9 @@ use Rattle.hlc_log_report.proofs.SeenTraces.{causes_agree, wrong_agrees}
 use Rattle.hlc_log.proofs.OrderSkeletons.{length-skeleton_in}
 use Rattle.hlc_log_audit.specs.Audit.{BreaksOrder, CarriesWrongly, ClaimsOver, ExceedsLimit, IsBroken, IsOutOfOrder, IsOutcome, IsOverLimit}
 use Rattle.hlc_log_audit.specs.Laws.{OutcomesAgree}
-use Rattle.hlc_log_audit.specs.OverLimit.{claimed_ahead}
+use Rattle.hlc_log_audit.proofs.EventsInOrder.{causes_in}
+use Rattle.hlc_log_audit.proofs.OverLimits.{claim_is_told, told_claim}
+use Rattle.hlc_log_audit.proofs.ReorderedAnswers.{told_moved}
 use Rattle.hlc_log_audit.specs.declared.outcome.Outcome.{Outcome}
 use Rattle.hlc_log_audit.specs.declared.outcome.Outcome.TheVariants.{BadLog, Broken, OverLimit, Sound}
 use Rattle.hlc_log_audit.specs.declared.rules.AuditRules.{AuditRules}
@@ -31,18 +32,15 @@ module _ (log other : LogInOrder) (to back : ℕ → ℕ) (h : TellTheSame log o
   abbrev to_here : ℕ → ℕ
   to_here = moved_position other log back
 
-  in_the_order : (k : ℕ) → k < length (skeleton_of log) → k < length log.order
-  in_the_order k lt = omega (arith, lt, length-skeleton_in log.events log.order h.ordered.causal)
-
   -- the causes of an event, as they are named in both orders
-  named : (full k : ℕ) → k < length (skeleton_of log) → (causes : Causes) × NamesCauses (clocks_of log) (seen_of log k) full k causes
-      × NamesCauses (clocks_of other) (seen_of other (to_there k)) full (to_there k) (moved_causes to_there causes)
+  named : (full k : ℕ) → k < length log.order → (causes : Causes) × NamesCausesIn log full k causes
+      × NamesCausesIn other full (to_there k) (moved_causes to_there causes)
   named full k lt =
-      let exists : k < length (clocks_of log) = omega (arith, lt, length-clocks_of log) in
-      let answer = causes_are_named (clocks_of log) (seen_of log k) full k exists in
-      (answer.0, answer.1, causes_agree log other to back h full k answer.0 (in_the_order k lt) answer.1)
+      let exists : k < length (clocks_of log) = omega (arith, lt, length-clocks_of log, length-skeleton_in log.events log.order h.ordered.causal) in
+      let answer = causes_in log full k exists in
+      (answer.0, answer.1, causes_agree log other to back h full k answer.0 lt answer.1)
 
-  out_of_order_kept : (full k : ℕ) → k < length (skeleton_of log) → IsOutOfOrder log full k → IsOutOfOrder other full (to_there k)
+  out_of_order_kept : (full k : ℕ) → k < length log.order → IsOutOfOrder log full k → IsOutOfOrder other full (to_there k)
   out_of_order_kept full k lt (inl behind) =
       let answer = named full k lt in inl ((answer.2 Behind).0 ((answer.1 Behind).1 behind))
   out_of_order_kept full k lt (inr (d, inl previous)) =
@@ -56,7 +54,7 @@ module _ (log other : LogInOrder) (to back : ℕ → ℕ) (h : TellTheSame log o
 
   pub order_broken : (full : ℕ) → BreaksOrder log full → BreaksOrder other full
   order_broken full (k, lt, broken) =
-      (to_there k, (skeletons_moved log other to back h).there.exists k lt, out_of_order_kept full k lt broken)
+      (to_there k, (moved_there log other to back h k lt).0, out_of_order_kept full k lt broken)
 
   carried_wrongly : CarriesWrongly log → CarriesWrongly other
   carried_wrongly (k, d, within, wrong) = (
@@ -76,17 +74,26 @@ module _ (log other : LogInOrder) (to back : ℕ → ℕ) (h : TellTheSame log o
       let kept = skeletons_moved log other to back h in
       let drift : drift_at (skeleton_of log) log.least k ≡ drift_at (skeleton_of other) other.least (to_there k) =
       drift_kept (skeleton_of log) (skeleton_of other) to_there to_here kept log.least other.least
-      (least_moved log other to back h) k beyond.0 in
-      (to_there k, (kept.there.exists k beyond.0, omega (arith, beyond.1)))
+      (least_moved log other to back h) k beyond.exists in (
+        to_there k,
+        record {
+          exists = kept.there.exists k beyond.exists;
+          is_told = told_moved log other to back h k beyond.exists ∙ beyond.is_told;
+          beyond = omega (arith, beyond.beyond);
+        },
+      )
 
   claims_over_kept : (limit : Option ℕ) → ClaimsOver limit log → ClaimsOver limit other
   claims_over_kept None over = over
   claims_over_kept (Some limit) (e, over) =
       let here = event_at log.events e in
       let there = event_at other.events (to e) in
-      let ahead : claimed_ahead here ≡ claimed_ahead there =
-      ap (λ (p : Pair). p.l - here.reading) (sym (h.claims e over.0)) ∙ ap (λ (n : ℕ). there.stamp.l - n) (sym (h.events.there.reading e over.0)) in
-      (to e, (h.events.there.exists e over.0, omega (arith, over.1)))
+      let keeps = h.events.there in
+      let told = claim_is_told here limit over.1 in
+      let claim = told_claim there (keeps.has_reading e over.0 ∙ told.0) (keeps.has_stamp e over.0 ∙ told.1) in
+      let l = ap (λ (p : Pair). p.l) (h.claims e over.0 told.1) in
+      let reading = keeps.reading e over.0 in
+      (to e, (keeps.exists e over.0, omega (arith, told.2)))
 
   pub over_limit : (limit : Option ℕ) → IsOverLimit limit log → IsOverLimit limit other
   over_limit limit (inl exceeds) = inl (limit_exceeded limit exceeds)

@@ -14,17 +14,17 @@ use Rattle.hlc_stamp.specs.declared.limits.TheConstants.{MAX_NODES}
 use Rattle.hlc_causality.specs.Causality.{IsSendOf, Skeleton, SkeletonEvent, skeleton_at}
 use Rattle.hlc_causality.specs.Places.{places_below}
 use Rattle.hlc_causality.proofs.Predecessors.{send_is_unique}
-use Rattle.hlc_causes.specs.Causes.{NamesCauses, no_causes}
+use Rattle.hlc_causes.specs.Causes.{no_causes}
 use Rattle.hlc_causes.specs.declared.answers.Cause.{Cause}
 use Rattle.hlc_causes.specs.declared.answers.Cause.TheVariants.{Ahead, Behind, NotAbovePrevious, NotAboveSend}
 use Rattle.hlc_causes.specs.declared.answers.Causes.{Causes}
-use Rattle.hlc_causes.proofs.CauseLaws.{causes_are_unique}
 use Rattle.hlc_csv.specs.Rows.{Fields}
 use Rattle.hlc_log.specs.declared.log_event.LogEvent.{LogEvent}
 use Rattle.hlc_log.specs.Events.{event_at}
 use Rattle.hlc_log.proofs.CausalOrders.{place_in_order}
 use Rattle.hlc_log_text.specs.LogText.{name_of}
-use Rattle.hlc_log_report.specs.InOrder.{LogInOrder, clocks_of, line_in, reading_told, seen_of, skeleton_of, wrong_of}
+use Rattle.hlc_log_report.specs.Found.{NamesCausesIn}
+use Rattle.hlc_log_report.specs.InOrder.{LogInOrder, line_in, reading_told, skeleton_of, wrong_of}
 use Rattle.hlc_log_report.specs.Messages.{message_counts}
 use Rattle.hlc_log_report.specs.Moved.{moved_causes, moved_event, moved_skew}
 use Rattle.hlc_log_report.specs.Laws.{KeepsTold}
@@ -35,7 +35,7 @@ use Rattle.hlc_log_report.specs.declared.messages.MessageCounts.{MessageCounts}
 use Rattle.hlc_log_report.specs.declared.skew.Skew.{Skew}
 use Rattle.hlc_log_report.proofs.EventsInOrder.{length-clocks_of, length-skeleton_of}
 use Rattle.hlc_log_report.proofs.Ordering.{order_len}
-use Rattle.hlc_log_report.proofs.Rearranged.{counts_agree, event_moved, messages_agree, moved, moved_back, moved_exists, one_log, reordered, same_size, tell_the_same}
+use Rattle.hlc_log_report.proofs.Rearranged.{counts_agree, event_moved, event_same, messages_agree, moved, moved_back, moved_exists, one_log, reordered, same_size, tell_the_same}
 use Rattle.hlc_log_report.proofs.ReorderedTraces.{moved_there, reordering_keeps_skews}
 use Rattle.hlc_log_report.proofs.SeenTraces.{causes_agree, wrong_agrees}
 use Rattle.hlc_log_report.proofs.SamePlaces.{count_list_moved, flat_moved}
@@ -44,7 +44,7 @@ use Rattle.hlc_log_audit.proofs.SameAnswers.{line_moved, node_moved, same_drift,
 use Rattle.hlc_log_audit.proofs.RowsAdded.{flat_map-same}
 use Rattle.hlc_log_audit.specs.Laws.{RearrangedReportsAgree, ReportsAgree}
 use Rattle.hlc_log_audit.specs.Report.{AreCauses, AreSkewRows, AreSkewRowsTo, IsSkewOfEvents, NameEvents, cause_fields, cause_row, cause_rows, cause_rows_at, count_rows, events_at, joined, message_row, node_row, node_rows, skew_row, wrong_at, wrong_row}
-use Rattle.hlc_log_audit.proofs.EventsInOrder.{names_events, skew_of_events, wrong_exists}
+use Rattle.hlc_log_audit.proofs.EventsInOrder.{names_events, same_causes, skew_of_events, wrong_exists}
 use Rattle.hlc_log.specs.OrderSkeleton.{index_in}
 use Rattle.hlc_log.proofs.OrderSkeletons.{place_of_index}
 
@@ -115,14 +115,14 @@ module _ (log other : LogInOrder) (to back : ℕ → ℕ) (h : IsRearranged log 
 
     behind_moved : (e : ℕ) → e < length log.events → (is : Bool)
         → cause_row nodes other (to e) (then_some is Behind) ≡ cause_row nodes log e (then_some is Behind)
-    behind_moved e lt true = ap (λ (x : LogEvent). cause_with x (cause_fields log Behind)) (h.same e lt)
+    behind_moved e lt true = ap (λ (x : LogEvent). cause_with x (cause_fields log Behind)) (event_same log other to back h e lt)
     behind_moved e lt false = refl
 
     not_above_moved : (e : ℕ) → e < length log.events → (d : EventId) → d.0 < length log.events
         → cause_with (event_at other.events (to e)) (codes "not-above" ∷ decimal (line_in other (to_there d.0)) ∷ [])
         ≡ cause_with (event_at log.events e) (codes "not-above" ∷ decimal (line_in log d.0) ∷ [])
     not_above_moved e lt d named =
-        ap (λ (x : LogEvent). cause_with x (codes "not-above" ∷ decimal (line_in other (to_there d.0)) ∷ [])) (h.same e lt)
+        ap (λ (x : LogEvent). cause_with x (codes "not-above" ∷ decimal (line_in other (to_there d.0)) ∷ [])) (event_same log other to back h e lt)
         ∙ ap (λ (line : ℕ). cause_with (event_at log.events e) (codes "not-above" ∷ decimal line ∷ [])) (line_moved log other to back h d.0 named)
 
     abbrev of_previous : Option EventId → Option Cause
@@ -144,13 +144,13 @@ module _ (log other : LogInOrder) (to back : ℕ → ℕ) (h : IsRearranged log 
     ahead_moved : (e : ℕ) → e < length log.events → (found : Option Pair)
         → cause_row nodes other (to e) (option_map (λ p. Ahead p) found) ≡ cause_row nodes log e (option_map (λ p. Ahead p) found)
     ahead_moved e lt None = refl
-    ahead_moved e lt (Some p) = ap (λ (x : LogEvent). cause_with x (cause_fields log (Ahead p))) (h.same e lt)
+    ahead_moved e lt (Some p) = ap (λ (x : LogEvent). cause_with x (cause_fields log (Ahead p))) (event_same log other to back h e lt)
 
     wrong_row_moved : (e : ℕ) → e < length log.events → (found : Option ℕ) → IfSome found (λ d. d < length log.events)
         → wrong_row nodes other (to e) (option_map to_there found) ≡ wrong_row nodes log e found
     wrong_row_moved e lt None named = refl
     wrong_row_moved e lt (Some d) named =
-        ap (λ (x : LogEvent). cause_with x (codes "carried" ∷ decimal (line_in other (to_there d)) ∷ [])) (h.same e lt)
+        ap (λ (x : LogEvent). cause_with x (codes "carried" ∷ decimal (line_in other (to_there d)) ∷ [])) (event_same log other to back h e lt)
         ∙ ap (λ (line : ℕ). cause_with (event_at log.events e) (codes "carried" ∷ decimal line ∷ [])) (line_moved log other to back h d named)
 
     wrong_moved : (e : ℕ) → e < length log.events
@@ -182,12 +182,12 @@ module _ (log other : LogInOrder) (to back : ℕ → ℕ) (h : IsRearranged log 
           let places = order_len log.events log.order h.ordered.causal in
           let k_lt : k < length log.events = omega (arith, at.1) in
           let found = slice_index_or causes e no_causes in
-          let names : NamesCauses (clocks_of log) (seen_of log k) full k found = are.each e lt k at.1 at.2 in
+          let names : NamesCausesIn log full k found = are.each e lt k at.1 at.2 in
           let there = moved_there log other to back (tell_the_same log other to back h) k at.1 in
           let other_names = others_are.each (to e) (h.there e lt) (to_there k) there.0 (there.1 ∙ ap to at.2) in
           let same =
-          causes_are_unique (clocks_of other) (seen_of other (to_there k)) full (to_there k) (slice_index_or others (to e) no_causes) (moved_causes to_there found)
-          (omega (arith, (reordered log other to back h).there.exists k (seen k k_lt), length-clocks_of other)) other_names
+          same_causes other full (to_there k) (omega (arith, (reordered log other to back h).there.exists k (seen k k_lt), length-clocks_of other))
+          (slice_index_or others (to e) no_causes) (moved_causes to_there found) other_names
           (causes_agree log other to back (tell_the_same log other to back h) full k found at.1 names) in
           ap (cause_rows_at nodes other (to e)) same ∙ rows_moved e lt found (names_events log h.ordered full k found k_lt names)
 

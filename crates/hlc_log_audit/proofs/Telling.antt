@@ -4,7 +4,7 @@ use Rattle.std.specs.Io.KnownBytes.{Appends}
 use Rattle.hlc_csv.specs.Rows.{Fields, text_of}
 use Rattle.hlc_log.specs.declared.log_event.LogEvent.{LogEvent}
 use Rattle.hlc_log.specs.declared.order_fault.OrderFault.{OrderFault}
-use Rattle.hlc_log_report.specs.InOrder.{IsInOrder, LogInOrder}
+use Rattle.hlc_log_report.specs.InOrder.{AreFilled, IsInOrder, LogInOrder}
 use Rattle.hlc_log_text.specs.declared.log_text.LogText.{LogText}
 use Rattle.hlc_log_text.specs.declared.question.LogQuestion.{LogQuestion}
 use Rattle.hlc_log_audit.specs.Audit.{AreRowsTold, IsFaultShown, IsOutcome, IsTextAudited, IsTextOf, IsTold, all_asked, audited_events, is_reported, unsent_of}
@@ -30,7 +30,7 @@ told_is_audited text rules asked before after BadLog told = absurd told.outcome
 pub told_of_text : (text : LogText) (rules : AuditRules) (asked : List LogQuestion) (before after : Option (List ℕ)) (result : Outcome)
     (events : List LogEvent) (nodes : List (List ℕ)) (labels : List (ℕ × List ℕ)) (questions : List LogQuestion)
     → IsTextOf text events nodes labels questions
-    → (log : LogInOrder) → log.receives ≡ rules.records.receives → log.events ≡ audited_events rules events → IsInOrder log
+    → (log : LogInOrder) → log.receives ≡ rules.records.receives → AreFilled (audited_events rules events) log.events → IsInOrder log
     → (unsent : Option ℕ) → unsent ≡ unsent_of rules events
     → (rows : List Fields) → AreRowsTold nodes labels log rules unsent (all_asked questions asked) rows → Appends before after (text_of rows)
     → IsOutcome rules log result → IsTextAudited text rules asked before after result
@@ -38,7 +38,7 @@ told_of_text text rules asked before after result events nodes labels questions 
     told_is_audited text rules asked before after result (record {
       log = log;
       receives = receives;
-      events = events_are ∙ ap (audited_events rules) is.events_are;
+      events = subst (λ (es : List LogEvent). AreFilled (audited_events rules es) log.events) is.events_are events_are;
       in_order = in_order;
       rows = rows;
       told =

@@ -6,24 +6,23 @@ use Rattle.std.specs.Str.{bytes_eq}
 use Rattle.hlc_stamp.specs.Order.{Pair}
 use Rattle.hlc_causality.specs.Assignment.{pair_at}
 use Rattle.hlc_causality.specs.FollowedClockChains.{clock_chain_of, is_clock_explained_by}
-use Rattle.hlc_explain.specs.ClockFindings.{clock_node_drift}
 use Rattle.hlc_explain.specs.Findings.{influenced_by, relation_of}
 use Rattle.hlc_explain.specs.Words.{relation_word}
 use Rattle.hlc_explain.specs.declared.answers.Drift.{Drift}
 use Rattle.hlc_explain.specs.declared.answers.Missing.TheVariants as missing
-use Rattle.hlc_causes.specs.Causes.{NamesFinding}
 use Rattle.hlc_causes.specs.declared.answers.Finding.{Finding}
 use Rattle.hlc_csv.specs.Rows.{Fields, yes_or_no}
 use Rattle.hlc_log.specs.CausalOrder.{place_at}
 use Rattle.hlc_log.specs.declared.log_event.LogEvent.{LogEvent}
-use Rattle.hlc_log_report.specs.InOrder.{LogInOrder, claimed_of, clocks_of, event_in_order, line_in, seen_of, skeleton_of}
+use Rattle.hlc_log_report.specs.Found.{FindsAt}
+use Rattle.hlc_log_report.specs.InOrder.{LogInOrder, claimed_of, clocks_of, event_in_order, line_in, reading_told, skeleton_of}
 use Rattle.hlc_log_text.specs.Labels.{label_at}
 use Rattle.hlc_log_text.specs.LogText.{name_of}
 use Rattle.hlc_log_text.specs.Question.{Asked, Check, Claimed, Drift as DriftAsked, Event, Explain, Influenced, Relation as RelationAsked}
 use Rattle.hlc_log_audit.specs.ClaimedWay.{claimed_way}
 use Rattle.hlc_log_audit.specs.Lines.{position_on, position_or_end}
-use Rattle.hlc_causes.specs.Words.{finding_word}
-use Rattle.hlc_log_audit.specs.Words.{missing_row}
+use Rattle.hlc_log_audit.specs.ToldDrift.{told_drift}
+use Rattle.hlc_log_audit.specs.Words.{found_word, missing_row}
 
 -- the row of an event's position, or the refusal if there is no such event
 abbrev pub if_event : Option ℕ → (ℕ → Fields) → Fields
@@ -75,14 +74,14 @@ abbrev pub TellsInfluenced : LogInOrder → (line k : ℕ) → Fields → Type 0
 TellsInfluenced log line k row =
     (lines : List ℕ) × AreRisingLinesOf log (influenced_by (skeleton_of log) k) lines × (row ≡ codes "influenced" ∷ map decimal (line ∷ lines))
 
--- how far a node's stamps ran ahead of its clock, at which line, and where that began
+-- how far a node's stamps ran ahead of its clock, at which line, and where that began, or that no reading of it is told
 abbrev pub drift_fields : LogInOrder → Option Drift → Fields
 drift_fields log None = codes "none" ∷ []
 drift_fields log (Some drift) = decimal drift.ahead ∷ decimal (line_in log drift.event.0) ∷ decimal (line_in log drift.origin.0) ∷ []
 
--- the drift of a node, by the least stamps
+-- the drift of a node, by the least stamps, among its events whose reading is told
 abbrev pub drift_in : LogInOrder → (node : ℕ) → Option Drift
-drift_in log node = clock_node_drift (skeleton_of log) (clocks_of log) log.least node
+drift_in log node = told_drift (skeleton_of log) (clocks_of log) (reading_told log) log.least node
 
 -- the row of the drift of a node, by its number, or the refusal if the log doesn't name it
 abbrev pub drift_row : LogInOrder → (name : List ℕ) → Option ℕ → Fields
@@ -98,14 +97,14 @@ label_fields (Some label) = label ∷ []
 abbrev pub reading_field : LogEvent → List ℕ
 reading_field event = if event.has_reading then decimal event.reading else []
 
--- the row of what is known of an event: its node, its reading, its claimed and its least stamp, what is found, and its label
-abbrev pub event_fields : (name : List ℕ) → (line : ℕ) → LogEvent → Pair → Finding → Option (List ℕ) → Fields
+-- the row of what is known of an event: its node, its reading, its claimed or given stamp, the least one, what is found, and its label
+abbrev pub event_fields : (name : List ℕ) → (line : ℕ) → LogEvent → Pair → Option Finding → Option (List ℕ) → Fields
 event_fields name line event least found label =
     codes "event" ∷ decimal line ∷ name ∷ reading_field event ∷ decimal event.stamp.l ∷ decimal event.stamp.c
-    ∷ decimal least.l ∷ decimal least.c ∷ finding_word found ∷ label_fields label
+    ∷ decimal least.l ∷ decimal least.c ∷ found_word found ∷ label_fields label
 
 -- what is known of the event at k, given this finding
-abbrev pub event_fields_at : (nodes : List (List ℕ)) → (labels : List (ℕ × List ℕ)) → LogInOrder → (line k : ℕ) → Finding → Fields
+abbrev pub event_fields_at : (nodes : List (List ℕ)) → (labels : List (ℕ × List ℕ)) → LogInOrder → (line k : ℕ) → Option Finding → Fields
 event_fields_at nodes labels log line k found =
     let event = event_in_order log.events log.order k in
     event_fields (name_of nodes event.node.0) line event (pair_at log.least k) found (label_at labels (place_at log.order k))
@@ -113,8 +112,7 @@ event_fields_at nodes labels log line k found =
 -- the row has what is known of the event at k
 abbrev pub TellsEvent : (nodes : List (List ℕ)) → (labels : List (ℕ × List ℕ)) → LogInOrder → (full line k : ℕ) → Fields → Type 0
 TellsEvent nodes labels log full line k row =
-    (found : Finding) × NamesFinding (clocks_of log) (seen_of log k) log.least full k found
-    × (row ≡ event_fields_at nodes labels log line k found)
+    (found : Option Finding) × FindsAt log full k found × (row ≡ event_fields_at nodes labels log line k found)
 
 -- the row answers what is asked
 abbrev pub IsAnswer : (nodes : List (List ℕ)) → (labels : List (ℕ × List ℕ)) → LogInOrder → (full : ℕ) → Asked → Fields → Type 0

@@ -2,7 +2,6 @@
 use Rattle.std.specs.Prelude.{◌≡◌, ◌==◌, ◌↔◌, ◌⊎◌, ℕ, ◌<◌, Bool, true, false, IsTrue, List, [], ◌∷◌, ◌++◌, Option, Some, None, codes, decimal, if◌then◌else◌, length, map}
 use Rattle.std.specs.Io.KnownBytes.{Appends}
 use Rattle.hlc_causality.specs.NodeEvents.{drift_at}
-use Rattle.hlc_causes.specs.Causes.{BreaksRule}
 use Rattle.hlc_causes.specs.declared.answers.Cause.TheVariants.{Behind, NotAbovePrevious, NotAboveSend}
 use Rattle.hlc_stamp.specs.declared.id.EventId.{EventId}
 use Rattle.hlc_csv.specs.Rows.{Fields, text_of, text_of_row}
@@ -20,12 +19,15 @@ use Rattle.hlc_log_text.specs.declared.bad_log.BadLine.{BadLine}
 use Rattle.hlc_log_text.specs.declared.log_text.LogText.{LogText}
 use Rattle.hlc_log_text.specs.declared.question.LogQuestion.{LogQuestion}
 use Rattle.hlc_log_audit.specs.Answers.{AreAnswers}
-use Rattle.hlc_log_report.specs.InOrder.{IsInOrder, LogInOrder, clocks_of, seen_of, skeleton_of, wrong_of}
+use Rattle.hlc_log_report.specs.Counts.{AreCounted}
+use Rattle.hlc_log_report.specs.Found.{BreaksAt}
+use Rattle.hlc_log_report.specs.InOrder.{AreFilled, IsInOrder, LogInOrder, reading_told, skeleton_of, wrong_of}
 use Rattle.hlc_log_report.specs.Outside.{from_outside_count}
 use Rattle.hlc_log_report.specs.Unread.{unread_count}
+use Rattle.hlc_log_report.specs.Unstamped.{unstamped_count}
 use Rattle.hlc_log_report.specs.declared.counts.Counts.{Counts}
 use Rattle.hlc_log_audit.specs.OverLimit.{IsClaimOver}
-use Rattle.hlc_log_audit.specs.Report.{AreCountsOf, AreOverRows, IsReport}
+use Rattle.hlc_log_audit.specs.Report.{AreOverRows, IsReport}
 use Rattle.hlc_log_audit.specs.declared.outcome.Outcome.{Outcome}
 use Rattle.hlc_log_audit.specs.declared.outcome.Outcome.TheVariants as outcome
 use Rattle.hlc_log_audit.specs.declared.rules.AuditRules.{AuditRules}
@@ -62,27 +64,34 @@ abbrev pub unsent_row : Option ℕ → List Fields
 unsent_row None = []
 unsent_row (Some count) = (codes "unsent" ∷ decimal count ∷ []) ∷ []
 
+-- the row of a word and of how many events this is so, if it is of some
+abbrev pub counted_row : (word : List ℕ) → ℕ → List Fields
+counted_row word n = if n == 0 then [] else (word ∷ decimal n ∷ []) ∷ []
+
 -- the row of how many events a log doesn't tell the reading of, if there are some
 abbrev pub unread_row : List LogEvent → List Fields
-unread_row events = if unread_count events == 0 then [] else (codes "unread" ∷ decimal (unread_count events) ∷ []) ∷ []
+unread_row events = counted_row (codes "unread") (unread_count events)
 
 -- the row of how many messages came in from outside, if some did
 abbrev pub outside_row : List LogEvent → List Fields
-outside_row events = if from_outside_count events == 0 then [] else (codes "outside" ∷ decimal (from_outside_count events) ∷ []) ∷ []
+outside_row events = counted_row (codes "outside") (from_outside_count events)
+
+-- the row of how many receives a log doesn't tell the stamp of, if there are some
+abbrev pub unstamped_row : List LogEvent → List Fields
+unstamped_row events = counted_row (codes "unstamped") (unstamped_count events)
 
 -- the rows of what the log doesn't tell of events
 abbrev pub missing_rows : List LogEvent → List Fields
-missing_rows events = outside_row events ++ unread_row events
+missing_rows events = outside_row events ++ (unread_row events ++ unstamped_row events)
 
--- the stamp of the event at k is behind its reading, or not above a direct predecessor's, by the stamps that it saw claimed
+-- the stamp that the log tells of the event at k is behind its reading, or not above a direct predecessor's, by the stamps that it saw claimed
 abbrev pub IsOutOfOrder : LogInOrder → (full k : ℕ) → Type 0
-IsOutOfOrder log full k = BreaksRule (clocks_of log) (seen_of log k) full k Behind
-    ⊎ ((d : EventId) × (BreaksRule (clocks_of log) (seen_of log k) full k (NotAbovePrevious d)
-    ⊎ BreaksRule (clocks_of log) (seen_of log k) full k (NotAboveSend d)))
+IsOutOfOrder log full k =
+    BreaksAt log full k Behind ⊎ ((d : EventId) × (BreaksAt log full k (NotAbovePrevious d) ⊎ BreaksAt log full k (NotAboveSend d)))
 
 -- some stamp is
 abbrev pub BreaksOrder : LogInOrder → ℕ → Type 0
-BreaksOrder log full = (k : ℕ) × (k < length (skeleton_of log)) × IsOutOfOrder log full k
+BreaksOrder log full = (k : ℕ) × (k < length log.order) × IsOutOfOrder log full k
 
 -- some message carried another stamp than the log claims for its send
 abbrev pub CarriesWrongly : LogInOrder → Type 0
@@ -94,13 +103,15 @@ IsBroken log full = BreaksOrder log full ⊎ CarriesWrongly log
 
 -- of each log with these counts, the answer tells whether some stamp is
 abbrev pub TellsDisorder : Counts → Bool → Type 0
-TellsDisorder counts answer = (log : LogInOrder) (full : ℕ) → AreCountsOf log full counts → IsTrue answer ↔ BreaksOrder log full
+TellsDisorder counts answer = (log : LogInOrder) (full : ℕ) → AreCounted log full counts → IsTrue answer ↔ BreaksOrder log full
 
--- the drift of the event at k exceeds a limit
-abbrev pub IsBeyond : (limit : ℕ) → LogInOrder → ℕ → Type 0
-IsBeyond limit log k = (k < length (skeleton_of log)) × (limit < drift_at (skeleton_of log) log.least k)
+-- the reading of the event at k is told, and its drift exceeds a limit
+pub record IsBeyond (limit : ℕ) (log : LogInOrder) (k : ℕ) : Type 0 where
+  pub exists : k < length (skeleton_of log)
+  pub is_told : reading_told log k ≡ true
+  pub beyond : limit < drift_at (skeleton_of log) log.least k
 
--- a drift exceeds the limit, if there is one
+-- the drift of some such event exceeds the limit, if there is one
 abbrev pub ExceedsLimit : Option ℕ → LogInOrder → Type 0
 ExceedsLimit None log = ⊥
 ExceedsLimit (Some limit) log = (k : ℕ) × IsBeyond limit log k
@@ -135,7 +146,8 @@ is_reported rules (question ∷ questions) = rules.report
 abbrev pub IsReportIf : Bool → (nodes : List (List ℕ)) → LogInOrder → (full : ℕ) → (unsent limit : Option ℕ) → List Fields → Type 0
 IsReportIf false nodes log full unsent limit rows = rows ≡ []
 IsReportIf true nodes log full unsent limit rows =
-    (report over : List Fields) × IsReport nodes log full report × AreOverRows nodes log limit over × (rows ≡ ((report ++ unsent_row unsent) ++ missing_rows log.events) ++ over)
+    (report over : List Fields) × IsReport nodes log full report × AreOverRows nodes log limit over
+    × (rows ≡ ((report ++ unsent_row unsent) ++ missing_rows log.events) ++ over)
 
 -- rows are the report on a log in order, if it is to be written, and the answers to what is asked
 pub record AreRowsTold (nodes : List (List ℕ)) (labels : List (ℕ × List ℕ)) (log : LogInOrder) (rules : AuditRules) (unsent : Option ℕ)
@@ -152,11 +164,12 @@ pub record IsFaultShown (events : List LogEvent) (fault : OrderFault) (before af
   pub no_memory : ¬ (fault ≡ order.Memory)
   pub text : Appends before after (text_of_row (bad_row (event_at events (order_fault_place fault)).line (order_fault_word fault)))
 
--- a log that was read has a causal order, and the writer got the rows that tell of it, with this outcome
+-- a log that was read has a causal order, and the writer got the rows that tell of it, with this outcome; of its events those whose stamp isn't
+-- told have one that was given
 pub record IsTold (text : LogText) (rules : AuditRules) (asked : List LogQuestion) (before after : Option (List ℕ)) (result : Outcome) : Type 0 where
   pub log : LogInOrder
   pub receives : log.receives ≡ rules.records.receives
-  pub events : log.events ≡ audited_events rules text.log.events
+  pub events : AreFilled (audited_events rules text.log.events) log.events
   pub in_order : IsInOrder log
   pub rows : List Fields
   pub told : AreRowsTold text.nodes text.labels log rules (unsent_of rules text.log.events) (all_asked text.questions.items asked) rows

@@ -1,6 +1,6 @@
 -- The laws of answers and reports.
 use Rattle.std.specs.List.Sorted.{IsPermutation}
-use Rattle.std.specs.Prelude.{◌≡◌, ℕ, ◌<◌, ◌≤◌, List, ◌∷◌, ◌++◌, Some, codes, length, map, option_map}
+use Rattle.std.specs.Prelude.{◌≡◌, Bool, ℕ, ◌<◌, ◌≤◌, List, ◌∷◌, ◌++◌, Some, codes, length, map, option_map, true}
 use Rattle.hlc_stamp.specs.Order.{Pair}
 use Rattle.hlc_stamp.specs.declared.limits.TheConstants.{MAX_NODES}
 use Rattle.hlc_causality.specs.Causality.{Skeleton}
@@ -11,7 +11,9 @@ use Rattle.hlc_log.specs.Reordering.{HaveEqualPairs, IsClockReordering, IsReorde
 use Rattle.hlc_log_text.specs.Question.{Asked}
 use Rattle.hlc_log_text.specs.declared.log_text.LogText.{LogText}
 use Rattle.hlc_log_text.specs.declared.question.LogQuestion.{LogQuestion}
-use Rattle.hlc_log_report.specs.InOrder.{IsCarriedRightly, IsInOrder, LogInOrder, claimed_of, skeleton_of}
+use Rattle.hlc_log_report.specs.Counts.{told_count}
+use Rattle.hlc_log_report.specs.InOrder.{IsCarriedRightly, IsInOrder, LogInOrder, claimed_of, clocks_of, reading_told, skeleton_of}
+use Rattle.hlc_log_report.specs.Laws.{KeepsTold}
 use Rattle.hlc_log_report.specs.Messages.{message_counts}
 use Rattle.hlc_log_report.specs.Reordered.{IsRearranged, TellTheSame, moved_position}
 use Rattle.hlc_log_audit.specs.Answers.{IsAnswer, drift_in}
@@ -20,6 +22,7 @@ use Rattle.hlc_log_audit.specs.ClaimedWay.{claimed_way}
 use Rattle.hlc_log_audit.specs.Lines.{LinesRise}
 use Rattle.hlc_log_audit.specs.Moved.{moved_drift}
 use Rattle.hlc_log_audit.specs.Report.{AreSkewRows, IsReport, count_row, joined, message_row, node_rows}
+use Rattle.hlc_log_audit.specs.ToldDrift.{NamesToldDrift, told_drift}
 use Rattle.hlc_log_audit.specs.declared.outcome.Outcome.{Outcome}
 use Rattle.hlc_log_audit.specs.declared.outcome.Outcome.TheVariants.{Sound}
 use Rattle.hlc_log_audit.specs.declared.rules.AuditRules.{AuditRules}
@@ -35,11 +38,22 @@ WaysAgree = (log other : LogInOrder) (to back : ℕ → ℕ) → TellTheSame log
     let moved = moved_position log other to in
     claimed_way (skeleton_of other) (claimed_of other) (moved k) ≡ map moved (claimed_way (skeleton_of log) (claimed_of log) k)
 
--- the drift of a node, with its event and the origin of that, is the same in each order, by equal pairs
+-- the drift that is found is that of the node: its first event of greatest drift among those whose reading is told, if there are some
+abbrev pub ToldDriftsAreFound : Type 0
+ToldDriftsAreFound = (s : Skeleton) (t : ClockEvents) (told : ℕ → Bool) (pairs : List Pair) (node : ℕ) → length t ≡ length s →
+    NamesToldDrift s t told pairs node (told_drift s t told pairs node)
+
+-- of a log that tells each reading it is the drift among all events of the node
+abbrev pub DriftsOfToldReadings : Type 0
+DriftsOfToldReadings = (log : LogInOrder) (node : ℕ) → ((k : ℕ) → k < length (skeleton_of log) → reading_told log k ≡ true) →
+    drift_in log node ≡ clock_node_drift (skeleton_of log) (clocks_of log) log.least node
+
+-- the drift of a node, with its event and the origin of that, is the same in each order, by equal pairs and if the same readings are told
 abbrev pub ReorderingKeepsDrifts : Type 0
 ReorderingKeepsDrifts = (s r : Skeleton) (t u : ClockEvents) (pairs others : List Pair) (to back : ℕ → ℕ) → IsReordering s r to back →
     IsClockReordering t u to back → length t ≡ length s → length u ≡ length r → HaveEqualPairs s to pairs others →
-    (a b : ℕ) → IsSameNode s r to a b → clock_node_drift r u others b ≡ option_map (moved_drift to) (clock_node_drift s t pairs a)
+    (told other_told : ℕ → Bool) → KeepsTold s to told other_told →
+    (a b : ℕ) → IsSameNode s r to a b → told_drift r u other_told others b ≡ option_map (moved_drift to) (told_drift s t told pairs a)
 
 -- so it is in two logs that tell the same
 abbrev pub DriftsAgree : Type 0
@@ -54,11 +68,11 @@ AnswersAgree = (nodes : List (List ℕ)) (labels : List (ℕ × List ℕ)) (log 
     IsInOrder log → IsInOrder other → other.receives ≡ log.receives → other.events ≡ log.events → LinesRise log.events →
     IsAnswer nodes labels log full question row → IsAnswer nodes labels other full question other_row → other_row ≡ row
 
--- rows report that nothing is wrong: all events are counted least, and their nodes, messages and skews follow
+-- rows report that nothing is wrong: all stamps that are told are counted least, and the nodes, messages and skews follow
 pub record IsCleanReport (nodes : List (List ℕ)) (log : LogInOrder) (rows : List Fields) : Type 0 where
   pub skews : List (List Fields)
   pub are_skews : AreSkewRows nodes log skews
-  pub rows_are : rows ≡ count_row (codes "least") (length log.events) ++ (node_rows nodes log ++ (message_row (message_counts log) ∷ joined skews))
+  pub rows_are : rows ≡ count_row (codes "least") (told_count log) ++ (node_rows nodes log ++ (message_row (message_counts log) ∷ joined skews))
 
 -- so does the report on a log that claims the least stamps, and whose messages carried what it claims
 abbrev pub LeastStampsReportClean : Type 0

@@ -6,4 +6,6 @@ pub mod Lines
 pub mod Moved
 pub mod OverLimit
 pub mod Report
+pub mod Tally
+pub mod ToldDrift
 pub mod Words

@@ -1,16 +1,16 @@
 -- The claims of a log that are over a limit.
-use Rattle.std.specs.Prelude.{◌≡◌, ◌==◌, Bool, false, ℕ, ◌+◌, ◌-◌, ◌<◌, ◌≤◌, List, Option, Some, None, count_by, if◌then◌else◌, length, nat_le, nat_lt, slice_index_or, take}
+use Rattle.std.specs.Prelude.{◌≡◌, ◌==◌, ◌&&◌, Bool, false, ℕ, ◌+◌, ◌-◌, ◌<◌, ◌≤◌, List, Option, Some, None, count_by, if◌then◌else◌, length, nat_le, nat_lt, slice_index_or, take}
 use Rattle.hlc_stamp.specs.declared.id.EventId.{EventId}
 use Rattle.hlc_stamp.specs.declared.limits.TheConstants.{MAX_NODES}
 use Rattle.hlc_log.specs.Events.{event_at}
 use Rattle.hlc_log.specs.declared.log_event.LogEvent.{LogEvent}
 use Rattle.hlc_log_audit.specs.declared.over.Over.{Over}
 
--- how far the l that an event claims is above its reading
+-- how far the l that an event claims is above its reading, or 0 if one of these isn't told
 abbrev pub claimed_ahead : LogEvent → ℕ
-claimed_ahead event = event.stamp.l - event.reading
+claimed_ahead event = if event.has_reading && event.has_stamp then event.stamp.l - event.reading else 0
 
--- the event at a place claims an l that is above its reading by more than a limit
+-- the event at a place claims an l that is above its reading by more than a limit; so both are told
 abbrev pub IsClaimOver : (limit : ℕ) → List LogEvent → ℕ → Type 0
 IsClaimOver limit events e = (e < length events) × (limit < claimed_ahead (event_at events e))
 

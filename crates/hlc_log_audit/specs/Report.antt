@@ -2,10 +2,9 @@
 use Rattle.std.specs.Prelude.{◌≡◌, ◌==◌, ◌-ℤ◌, ℕ, ◌<◌, List, [], ◌∷◌, ◌++◌, IfSome, Option, Some, None, codes, count_by, decimal, if◌then◌else◌, length, map, option_map, pos, slice_index_or}
 use Rattle.std.specs.Bool.{then_some}
 use Rattle.std.specs.Fmt.{signed_decimal}
-use Rattle.hlc_stamp.specs.declared.limits.TheConstants.{MAX_NODES}
 use Rattle.std.specs.List.{flat_map}
 use Rattle.hlc_causality.specs.Places.{places_below}
-use Rattle.hlc_causes.specs.Causes.{NamesCauses, no_causes}
+use Rattle.hlc_causes.specs.Causes.{no_causes}
 use Rattle.hlc_causes.specs.declared.answers.Cause.{Cause}
 use Rattle.hlc_causes.specs.declared.answers.Cause.TheVariants as cause
 use Rattle.hlc_causes.specs.declared.answers.Causes.{Causes}
@@ -19,7 +18,8 @@ use Rattle.hlc_log_audit.specs.Lines.{position_on}
 use Rattle.hlc_log_audit.specs.OverLimit.{AreOvers}
 use Rattle.hlc_log_audit.specs.declared.over.Over.{Over}
 use Rattle.hlc_log_report.specs.Counts.{AreCounted}
-use Rattle.hlc_log_report.specs.InOrder.{LogInOrder, clocks_of, line_in, reading_told, seen_of, skeleton_of, wrong_of}
+use Rattle.hlc_log_report.specs.Found.{NamesCausesIn}
+use Rattle.hlc_log_report.specs.InOrder.{LogInOrder, line_in, reading_told, skeleton_of, wrong_of}
 use Rattle.hlc_log_report.specs.Messages.{message_counts}
 use Rattle.hlc_log_report.specs.Skew.{AreSkewsTo}
 use Rattle.hlc_log_report.specs.declared.counts.Counts.{Counts}
@@ -43,10 +43,9 @@ cause_fields log (cause.NotAbovePrevious d) = codes "not-above" ∷ decimal (lin
 cause_fields log (cause.NotAboveSend d) = codes "not-above" ∷ decimal (line_in log d.0) ∷ []
 cause_fields log (cause.Ahead p) = codes "ahead" ∷ decimal p.l ∷ decimal p.c ∷ []
 
--- these are the rules that the event at a place of the log, wherever it stands in the order, breaks
+-- these are the rules that the event at a place of the log, wherever it stands in the order, breaks: none if the log tells no stamp of it
 abbrev pub NamesCausesAt : LogInOrder → (full e : ℕ) → Causes → Type 0
-NamesCausesAt log full e found =
-    (k : ℕ) → k < length log.order → place_at log.order k ≡ e → NamesCauses (clocks_of log) (seen_of log k) full k found
+NamesCausesAt log full e found = (k : ℕ) → k < length log.order → place_at log.order k ≡ e → NamesCausesIn log full k found
 
 -- those of each of the first n events of the log
 pub record AreCausesBefore (log : LogInOrder) (full n : ℕ) (causes : List Causes) : Type 0 where
@@ -106,10 +105,6 @@ cause_rows nodes log causes =
 abbrev pub events_at : LogInOrder → ℕ → ℕ
 events_at log node = count_by (λ event. event.node == node) (skeleton_of log)
 
--- a count for each node that there may be
-abbrev pub AreEventCounts : LogInOrder → List ℕ → Type 0
-AreEventCounts log counts = (node : ℕ) → node < MAX_NODES → slice_index_or counts node 0 ≡ events_at log node
-
 -- the row of a node
 abbrev pub node_row : (nodes : List (List ℕ)) → LogInOrder → ℕ → Fields
 node_row nodes log node =
@@ -146,7 +141,8 @@ skew_rows_to nodes log to skews = flat_map (λ from. skew_row nodes log from to 
 
 -- these rows are the skews to one node
 abbrev pub AreSkewRowsTo : (nodes : List (List ℕ)) → LogInOrder → ℕ → List Fields → Type 0
-AreSkewRowsTo nodes log to rows = (skews : List (Option Skew)) × AreSkewsTo (skeleton_of log) (reading_told log) to skews × (rows ≡ skew_rows_to nodes log to skews)
+AreSkewRowsTo nodes log to rows =
+    (skews : List (Option Skew)) × AreSkewsTo (skeleton_of log) (reading_told log) to skews × (rows ≡ skew_rows_to nodes log to skews)
 
 -- these are the rows of the skews to each of the first n nodes
 pub record AreSkewRowsBefore (nodes : List (List ℕ)) (log : LogInOrder) (n : ℕ) (parts : List (List Fields)) : Type 0 where
@@ -191,14 +187,10 @@ AreOverRows nodes log (Some limit) rows = (overs : List (Option Over)) × AreOve
 abbrev pub joined : List (List Fields) → List Fields
 joined parts = flat_map (λ part. part) parts
 
--- the counts are those of what is found of the log's stamps
-abbrev pub AreCountsOf : LogInOrder → ℕ → Counts → Type 0
-AreCountsOf log full counts = AreCounted (clocks_of log) (seen_of log) log.least full counts
-
 -- the rows of the report: the counts of the verdicts, the causes, the nodes, the messages and the skews
 pub record IsReport (nodes : List (List ℕ)) (log : LogInOrder) (full : ℕ) (rows : List Fields) : Type 0 where
   pub counts : Counts
-  pub counted : AreCountsOf log full counts
+  pub counted : AreCounted log full counts
   pub causes : List Causes
   pub are_causes : AreCauses log full causes
   pub skews : List (List Fields)

@@ -1,4 +1,4 @@
-ghost use Rattle.std.specs.Prelude.{◌≡◌, ◌≢◌, ◌≤◌, ◌<◌, All, List, Option, IfOk, IsErrOf, OnOk, length};
+ghost use Rattle.std.specs.Prelude.{◌≡◌, ◌≢◌, ◌*◌, ◌≤◌, ◌<◌, All, List, Option, IfOk, IsErrOf, OnOk, length};
 ghost use Rattle.std.specs.Io.KnownBytes.{Appends};
 ghost use Rattle.hlc_log_text.specs.StampForms.{greatest_c};
 ghost use Rattle.hlc_csv.specs.Rows.{AddsRows, Fields, text_of, text_of_row};
@@ -9,8 +9,8 @@ ghost use Rattle.hlc_log_text.specs.declared.log_text.LogText.{LogText};
 ghost use Rattle.hlc_log_report.specs.InOrder.{IsInOrder};
 ghost use Rattle.hlc_log_audit.specs.Answers.{AreAnswers};
 ghost use Rattle.hlc_log_audit.specs.Lines.{LinesRise};
-ghost use Rattle.hlc_log_audit.specs.Audit.{AreRowsTold, IsAudited, IsFaultShown, IsOutcome, IsReportIf, IsTextAudited, IsTextOf, all_asked, audited_events, bad_row, is_reported, missing_rows, outside_row, unread_row, unsent_of, unsent_row};
-ghost use Rattle.hlc_log_audit.specs.Report.{AreCountsOf};
+ghost use Rattle.hlc_log_audit.specs.Audit.{AreRowsTold, IsAudited, IsFaultShown, IsOutcome, IsReportIf, IsTextAudited, IsTextOf, all_asked, audited_events, bad_row, counted_row, is_reported, missing_rows, unsent_of, unsent_row};
+ghost use Rattle.hlc_log_report.specs.Counts.{AreCounted};
 
 use crate::answer::push_answers;
 use crate::counts::count_stamps;
@@ -22,7 +22,7 @@ use crate::soundness::outcome;
 use hlc_csv::RowField::{Number, Text};
 use hlc_csv::{OutputFault, RecordsFault, RowBuffer};
 use hlc_log::{Log, OrderFault, causal_order};
-use hlc_log_report::{Counts, OrderedLog, count_messages, count_outside, count_unread, skews_of};
+use hlc_log_report::{Counts, OrderedLog, count_messages, count_missing, skews_of};
 use hlc_log_text::{Labels, LogQuestion, LogText, LogTextFault, Names, read_log};
 use hlc_stamp::{MAX_CAPACITY, MAX_NODES};
 use std::alloc::{AllocError, Global};
@@ -75,35 +75,22 @@ fn push_unsent<W: Write>(
     }
 }
 
-// Adds the row that tells of how many events the log doesn't tell what their clock read, if there are some.
-fn push_unread<W: Write>(
+// Adds the row that tells of how many events something is so, if it is of some.
+fn push_counted<W: Write>(
     rows: &mut RowBuffer,
-    log: &OrderedLog,
+    word: &[u8],
+    count: u32,
     writer: &mut W,
 ) -> Result<(), OutputFault>
-    ensures { OnOk result (AddsRows W.contents writer.old writer.new rows.old rows.new (unread_row log.now.events)) }
+    ensures { OnOk result (AddsRows W.contents writer.old writer.new rows.old rows.new (counted_row word.now count)) }
 {
-    match count_unread(log) {
+    match count {
         0 => Ok(()),
-        unread => rows.push_numbers(b"unread", &[u64::from(unread)], None, writer),
+        count => rows.push_numbers(word, &[u64::from(count)], None, writer),
     }
 }
 
-// Adds the row that tells how many messages came in from outside of the log, if some did.
-fn push_outside<W: Write>(
-    rows: &mut RowBuffer,
-    log: &OrderedLog,
-    writer: &mut W,
-) -> Result<(), OutputFault>
-    ensures { OnOk result (AddsRows W.contents writer.old writer.new rows.old rows.new (outside_row log.now.events)) }
-{
-    match count_outside(log) {
-        0 => Ok(()),
-        outside => rows.push_numbers(b"outside", &[u64::from(outside)], None, writer),
-    }
-}
-
-// Adds the rows that tell of how many events something isn't in the log: their send, or what their clock read.
+// Adds the rows that tell of how many events something isn't in the log: their send, what their clock read, or their stamp.
 fn push_missing<W: Write>(
     rows: &mut RowBuffer,
     log: &OrderedLog,
@@ -111,11 +98,14 @@ fn push_missing<W: Write>(
 ) -> Result<(), OutputFault>
     ensures { OnOk result (AddsRows W.contents writer.old writer.new rows.old rows.new (missing_rows log.now.events)) }
 {
-    push_outside(rows, log, writer)?;
-    push_unread(rows, log, writer)
+    let missing = count_missing(log);
+    push_counted(rows, b"outside", missing.outside, writer)?;
+    push_counted(rows, b"unread", missing.unread, writer)?;
+    push_counted(rows, b"unstamped", missing.unstamped, writer)
 }
 
-// Adds the report on a log, how many receives were taken as local events, at how many events no reading is told, and which claims are over the limit, if that is to be written.
+// Adds the report on a log, how many receives were taken as local events, of how many events something isn't told, and which claims are over
+// the limit, if that is to be written.
 fn push_if_told<W: Write>(
     alloc: Global,
     rows: &mut RowBuffer,
@@ -131,7 +121,7 @@ fn push_if_told<W: Write>(
     requires ordered { IsInOrder log.now }
     requires rise { LinesRise log.now.events }
     requires nodes { length nodes.now ≤ MAX_NODES }
-    requires counts { AreCountsOf log.now full counts }
+    requires counts { AreCounted log.now full counts }
     ensures { OnOk result ((report : List Fields) × IsReportIf is_told nodes.now log.now full unsent limit report
         × AddsRows W.contents writer.old writer.new rows.old rows.new report) }
 {
@@ -191,7 +181,7 @@ fn tell_log<W: Write>(
     requires ordered { IsInOrder log.now }
     requires rise { LinesRise log.now.events }
     requires nodes { length nodes.now ≤ MAX_NODES }
-    requires counts { AreCountsOf log.now (greatest_c rules.records.form) counts }
+    requires counts { AreCounted log.now (greatest_c rules.records.form) counts }
     ensures { OnOk result ((told : List Fields)
         × AreRowsTold nodes.now labels.now log.now rules unsent (all_asked questions.now asked.now) told
         × Appends (W.contents writer.old) (W.contents writer.new) (text_of told)) }
@@ -209,8 +199,8 @@ fn tell_log<W: Write>(
     rows.finish(writer)
 }
 
-/// Takes receives of messages that nobody sends as coming in from outside, if the log tells what the message carried; others as local events, if
-/// the rules say so, and says how many these were.
+/// Takes receives of messages that nobody sends as coming in from outside, if the log tells what the message carried; others as local events,
+/// if the rules say so, and says how many these were.
 pub fn take_unsent(
     alloc: Global,
     log: &mut Log,
@@ -291,7 +281,7 @@ fn audit_events<W: Write>(
     requires in_range { All IsInRange log.events }
     requires rise { LinesRise log.events }
     requires nodes { length nodes.now ≤ MAX_NODES }
-    requires messages { messages ≤ MAX_CAPACITY }
+    requires messages { messages ≤ 2 * MAX_CAPACITY }
     ensures { IfOk result (λ outcome. (text : LogText) → IsTextOf text log.events nodes.now labels.now questions.now →
         IsTextAudited text rules asked.now (W.contents writer.old) (W.contents writer.new) outcome) }
 {
@@ -319,7 +309,7 @@ fn audit_text<W: Write>(
     requires in_range { All IsInRange text.log.events }
     requires rise { LinesRise text.log.events }
     requires nodes { length text.nodes ≤ MAX_NODES }
-    requires messages { text.messages ≤ MAX_CAPACITY }
+    requires messages { text.messages ≤ 2 * MAX_CAPACITY }
     ensures { IfOk result (IsTextAudited text rules asked.now (W.contents writer.old) (W.contents writer.new)) }
 {
     let LogText {

@@ -1,9 +1,10 @@
-ghost use Rattle.std.specs.Prelude.{◌≡◌, ◌<◌, IfSome, List, OnOk, length};
+ghost use Rattle.std.specs.Prelude.{◌≡◌, ◌↔◌, ◌<◌, IfSome, IsTrue, List, OnOk, length};
 ghost use Rattle.hlc_causality.specs.Neighbours.{place_of};
 ghost use Rattle.hlc_csv.specs.Rows.{AddsRow, AddsRows};
 ghost use Rattle.hlc_causes.specs.declared.answers.Causes.{Causes as CausesFound};
 ghost use Rattle.hlc_log_report.specs.InOrder.{IsInOrder};
-ghost use Rattle.hlc_log_audit.specs.Report.{AreCauses, AreCountsOf, NameEvents, NamesCausesAt, NamesEvent, cause_fields_at, cause_row, cause_rows, cause_rows_at, wrong_at, wrong_row};
+ghost use Rattle.hlc_log_report.specs.Counts.{AreCounted, no_findings};
+ghost use Rattle.hlc_log_audit.specs.Report.{AreCauses, NameEvents, NamesCausesAt, NamesEvent, cause_fields_at, cause_row, cause_rows, cause_rows_at, wrong_at, wrong_row};
 
 use crate::soundness::carries_wrongly;
 use hlc_causes::{Cause, Causes};
@@ -135,7 +136,19 @@ fn push_causes_of<W: Write>(
     push_wrong(rows, nodes, log, place, wrong, writer)
 }
 
-// Adds the rows of the causes, in the order of the lines. It looks for none if each stamp is the least one, and each message carried its send's.
+// Whether no stamp has another verdict than least.
+fn are_least(counts: Counts) -> bool
+    ensures { IsTrue result ↔ (counts ≡ record no_findings { least = counts.least }) }
+{
+    counts.behind == 0
+        && counts.not_above == 0
+        && counts.low == 0
+        && counts.ahead == 0
+        && counts.rolled_over == 0
+}
+
+// Adds the rows of the causes, in the order of the lines. It looks for none if each stamp that is told is the least one, and each message
+// carried its send's.
 pub(crate) fn push_causes<W: Write>(
     rows: &mut RowBuffer,
     nodes: &Names,
@@ -145,11 +158,11 @@ pub(crate) fn push_causes<W: Write>(
     writer: &mut W,
 ) -> Result<(), OutputFault>
     requires ordered { IsInOrder log.now }
-    requires counts { AreCountsOf log.now full counts }
+    requires counts { AreCounted log.now full counts }
     ensures { OnOk result ((causes : List CausesFound) × AreCauses log.now full causes
         × AddsRows W.contents writer.old writer.new rows.old rows.new (cause_rows nodes.now log.now causes)) }
 {
-    if counts.least == log.len() && !carries_wrongly(log) {
+    if are_least(counts) && !carries_wrongly(log) {
         return Ok(());
     }
     push_each_cause(rows, nodes, log, full, writer)

@@ -1,6 +1,7 @@
 ghost use Rattle.std.specs.Prelude.{OnOk};
 ghost use Rattle.hlc_csv.specs.Rows.{AddsRows};
-ghost use Rattle.hlc_log_audit.specs.Report.{AreCountsOf, count_row, count_rows};
+ghost use Rattle.hlc_log_report.specs.Counts.{AreCounted};
+ghost use Rattle.hlc_log_audit.specs.Report.{count_row, count_rows};
 
 use hlc_csv::RowField::{Number, Text};
 use hlc_csv::{OutputFault, RowBuffer};
@@ -9,7 +10,7 @@ use std::io::Write;
 
 // How many of the log's stamps have each verdict. `full` is the greatest `c` that their form can write.
 pub(crate) fn count_stamps(log: &OrderedLog, full: u32) -> Counts
-    ensures { AreCountsOf log.now full result }
+    ensures { AreCounted log.now full result }
 {
     count_findings(log, full)
 }

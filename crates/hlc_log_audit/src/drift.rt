@@ -1,45 +1,56 @@
-ghost use Rattle.std.specs.Prelude.{◌≡◌, ◌<◌, ◌≤◌, IfSome, OnOk, length, position};
+ghost use Rattle.std.specs.Prelude.{◌≡◌, ◌<◌, ◌≤◌, IfSome, OnOk, length, option_map, position};
 ghost use Rattle.std.specs.Str.{bytes_eq};
 ghost use Rattle.hlc_stamp.specs.declared.limits.TheConstants.{MAX_NODES};
 ghost use Rattle.hlc_csv.specs.Rows.{AddsRow};
 ghost use Rattle.hlc_log_report.specs.InOrder.{IsInOrder};
 ghost use Rattle.hlc_log_audit.specs.Answers.{drift_in, drift_row};
+ghost use Rattle.hlc_log_audit.specs.Tally.{AreTallies, furthest_in};
 
+use crate::tally::{Furthest, NodeTally};
 use crate::words::push_missing;
 use hlc_csv::RowField::{Number, Text};
 use hlc_csv::{OutputFault, RowBuffer};
-use hlc_explain::{Drift, Missing, drift};
+use hlc_explain::{Drift, Missing};
 use hlc_log_report::OrderedLog;
 use hlc_log_text::Names;
 use hlc_stamp::NodeId;
 use std::io::Write;
 
-/// How far a node's stamps ran ahead of its clock by the least stamps, if it has events.
-///
-/// It takes no memory, and time linear in the chain of the event that it names.
-pub(crate) fn drift_of(log: &OrderedLog, node: NodeId) -> Option<Drift>
+// The drift of a node, of whose events this one is the furthest ahead of its clock, if there is one.
+//
+// It takes no memory, and time linear in the chain of that event.
+pub(crate) fn drift_from(
+    log: &OrderedLog,
+    node: NodeId,
+    furthest: Option<Furthest>,
+) -> Option<Drift>
     requires ordered { IsInOrder log.now }
-    requires node { node.0 < MAX_NODES }
+    requires furthest { furthest ≡ furthest_in log.now (length log.now.events) node.0 }
     ensures drift { result ≡ drift_in log.now node.0 }
     ensures event { IfSome result (λ drift. drift.event.0 < length log.now.events) }
     ensures origin { IfSome result (λ drift. drift.origin.0 < length log.now.events) }
 {
-    match drift(log.execution(), node) {
-        Ok(found) => found,
-        Err(_) => unreachable!(),
-    }
+    let Furthest { event, ahead } = furthest?;
+    let origin = log.execution().origin(event);
+    Some(Drift {
+        ahead,
+        event,
+        origin,
+    })
 }
 
-// Answers how far the stamps of the node of a name ran ahead of its clock.
+// Answers how far the stamps of the node of a name ran ahead of its clock, by the tallies of nodes.
 pub(crate) fn push_drift<'a, W: Write>(
     rows: &mut RowBuffer,
     nodes: &Names,
     log: &OrderedLog,
+    tallies: &[NodeTally],
     name: &'a [u8],
     writer: &mut W,
 ) -> Result<(), OutputFault>
     requires ordered { IsInOrder log.now }
     requires nodes { length nodes.now ≤ MAX_NODES }
+    requires tallies { AreTallies log.now tallies.now }
     ensures { OnOk result (AddsRow W.contents writer.old writer.new rows.old rows.new
         (drift_row log.now name.now (position (bytes_eq name.now) nodes.now))) }
 {
@@ -47,7 +58,8 @@ pub(crate) fn push_drift<'a, W: Write>(
         return push_missing(rows, Missing::Node, writer);
     };
     let (word, name) = (Text(b"drift"), Text(name));
-    match drift_of(log, NodeId(node as u16)) {
+    let furthest = tallies[node].furthest;
+    match drift_from(log, NodeId(node as u16), furthest) {
         None => rows.push(&[word, name, Text(b"none")], writer),
         Some(drift) => {
             let line = Number(u64::from(log.event(drift.event).line));

@@ -6,7 +6,7 @@ ghost use Rattle.hlc_log_audit.specs.Answers.{IfEvent, TellsEvent, event_fields,
 ghost use Rattle.hlc_log_audit.specs.Lines.{LinesRise, position_on};
 
 use crate::lines::find;
-use crate::words::{finding_word, push_missing};
+use crate::words::{found_word, push_missing};
 use hlc_causes::Finding;
 use hlc_csv::RowField::{Number, Text};
 use hlc_csv::{OutputFault, RowBuffer, RowField};
@@ -35,7 +35,7 @@ fn push_known<'a, W: Write>(
     line: Line,
     event: LogEvent,
     least: Stamp,
-    found: Finding,
+    found: Option<Finding>,
     label: Option<&'a [u8]>,
     writer: &mut W,
 ) -> Result<(), OutputFault>
@@ -46,7 +46,7 @@ fn push_known<'a, W: Write>(
     let (line, reading) = (Number(line.0), reading_field(event));
     let (l, c) = (Number(event.stamp.l), Number(u64::from(event.stamp.c)));
     let (least_l, least_c) = (Number(least.l), Number(u64::from(least.c)));
-    let found = Text(finding_word(found));
+    let found = Text(found_word(found));
     match label {
         None => rows.push(
             &[word, line, name, reading, l, c, least_l, least_c, found],

@@ -4,6 +4,7 @@ ghost use Rattle.hlc_log_audit.specs.Laws.{
   AnswersAgree,
   AuditsAgree,
   DriftsAgree,
+  DriftsOfToldReadings,
   LeastStampsAreSound,
   LeastStampsReportClean,
   OutcomesAgree,
@@ -11,8 +12,16 @@ ghost use Rattle.hlc_log_audit.specs.Laws.{
   ReorderingKeepsDrifts,
   ReorderingKeepsWays,
   ReportsAgree,
+  ToldDriftsAreFound,
   WaysAgree,
 };
+
+/// The drift of a node is that of the first of its events that is furthest ahead of its clock, among those whose reading is told. If all are
+/// told, it is what `hlc_explain::drift` answers.
+pub fn drifts_are_of_told_readings()
+    ensures found { ToldDriftsAreFound }
+    ensures all_told { DriftsOfToldReadings }
+{}
 
 /// The way on which a claimed `l` came doesn't depend on the order in which events are listed.
 pub fn reordering_keeps_ways()
@@ -31,16 +40,17 @@ pub fn answers_agree()
     ensures { AnswersAgree }
 {}
 
-/// The report on a log that claims the least stamps counts all of its events least, and names no cause. Such a log is sound, unless
-/// a drift exceeds the limit.
+/// The report on a log that claims the least stamps counts each that it tells least, and names no cause. Such a log is sound, unless a drift
+/// exceeds the limit.
 pub fn least_stamps_audit_clean()
     ensures report { LeastStampsReportClean }
     ensures sound { LeastStampsAreSound }
 {}
 
 /// An audit is a function of its log: two audits of one log, by the same rules and with the same asked, have one outcome and leave the
-/// same bytes, since the report and the answers have the same rows whichever causal order is found. Logs with the same events in different orders
-/// have the same rows, too, up to their order; and logs that tell the same have one outcome.
+/// same bytes, since whichever causal order is found, receives without a stamp are given the same ones, and the report and the answers have the
+/// same rows. Logs with the same events in different orders have the same rows, too, up to their order; and logs that tell the same have one
+/// outcome.
 pub fn audits_agree()
     ensures audits { AuditsAgree }
     ensures reports { ReportsAgree }

@@ -14,16 +14,17 @@
 //! - `cause,LINE,NODE,HOW`: an event that broke the rule, in the order of the lines. HOW is `behind`, `not-above` with the line
 //!   of the direct predecessor, or `ahead` with the stamp that the rule gives; or it is `carried`, with the line of the send whose message
 //!   carried another stamp than the log claims there.
-//! - `node,NODE,EVENTS,AHEAD,LINE,ORIGIN`: how many events a node has, its drift by the least stamps, the line of the first event
-//!   that has it, and that of its origin. A node without events has `none` in place of these three.
+//! - `node,NODE,EVENTS,AHEAD,LINE,ORIGIN`: how many events a node has, its drift by the least stamps among those whose reading is told, the
+//!   line of the first event that has it, and that of its origin. A node of which no reading is told has `none` in place of these three.
 //! - `messages,SENT,RECEIVED,REPEATED,UNRECEIVED`: the counts of `MessageCounts`.
 //! - `skew,FROM,TO,AHEAD,SEND,RECEIVE`: how far the clock of one node is ahead of another's by the messages between them, with
 //!   its sign, and the lines of the message that shows it.
 //! - `unsent,N`: how many receives of messages that nobody sends were taken as local events, if `AuditRules` say so.
 //! - `outside,N`: how many receives of such messages tell what these carried, if some do: they came in from outside of the log.
 //! - `unread,N`: how many events have no reading, if there are some.
-//! - `over,NODE,N,LINE,AHEAD,ORIGIN`: how many events of a node claim an `l` that is above their reading by more than the limit, if there is
-//!   one and there are some; the line of the first of them; the greatest such difference; and the line where that `l` came in.
+//! - `unstamped,N`: how many receives have no stamp, if there are some. Each has the one that the clock rule gives it, and no verdict.
+//! - `over,NODE,N,LINE,AHEAD,ORIGIN`: how many events of a node claim an `l` that is above their told reading by more than the limit, if
+//!   there is one and there are some; the line of the first of them; the greatest such difference; and the line where that `l` came in.
 //!
 //! The row of an answer, by what is asked:
 //!
@@ -31,9 +32,10 @@
 //! - `check,LINE,yes` or `no`: whether the other lines that were asked about are a chain for it.
 //! - `relation,LINE,LINE,HOW`: `before`, `after`, `same` or `concurrent`.
 //! - `influenced,LINE,LINE..`: all events that the event happened before, rising by their lines.
-//! - `drift,NODE,AHEAD,LINE,ORIGIN`, or `drift,NODE,none` for a node without events.
+//! - `drift,NODE,AHEAD,LINE,ORIGIN`, or `drift,NODE,none` for a node of which no reading is told.
 //! - `claimed,LINE,L,C,LINE..`: the claimed stamp, and the way of its `l`.
-//! - `event,LINE,NODE,READING,L,C,LEAST_L,LEAST_C,VERDICT[,LABEL]`: what is known of the event.
+//! - `event,LINE,NODE,READING,L,C,LEAST_L,LEAST_C,VERDICT[,LABEL]`: what is known of the event. A receive without a stamp has the one that it
+//!   was given, and `unstamped` in place of a verdict.
 //! - `refused,no-event` or `refused,no-node`, if the log has no such event or node.
 //!
 //! Text that is not a log is answered by the one row `bad,LINE,WHY`.
@@ -114,6 +116,7 @@ mod report;
 mod rules;
 mod skews;
 mod soundness;
+mod tally;
 mod way;
 mod words;
 

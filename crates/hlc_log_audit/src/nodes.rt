@@ -1,10 +1,12 @@
 ghost use Rattle.std.specs.Prelude.{◌≡◌, ◌<◌, ◌≤◌, OnOk, length};
 ghost use Rattle.hlc_causality.specs.Causality.{skeleton_at};
 ghost use Rattle.hlc_csv.specs.Rows.{AddsRow, AddsRows};
-ghost use Rattle.hlc_log_report.specs.InOrder.{IsInOrder, skeleton_of};
-ghost use Rattle.hlc_log_audit.specs.Report.{AreEventCounts, events_at, node_row, node_rows};
+ghost use Rattle.hlc_log_report.specs.InOrder.{IsInOrder};
+ghost use Rattle.hlc_log_audit.specs.Report.{events_at, node_row, node_rows};
+ghost use Rattle.hlc_log_audit.specs.Tally.{furthest_in};
 
-use crate::drift::drift_of;
+use crate::drift::drift_from;
+use crate::tally::{NodeTally, tally_nodes};
 use hlc_csv::RowField::{Number, Text};
 use hlc_csv::{OutputFault, RowBuffer};
 use hlc_execution::Execution;
@@ -12,19 +14,6 @@ use hlc_log_report::OrderedLog;
 use hlc_log_text::{Names, node_name};
 use hlc_stamp::{EventId, MAX_NODES, NodeId};
 use std::io::Write;
-
-// How many events each node has.
-fn count_events(log: &OrderedLog) -> [u32; MAX_NODES as usize]
-    ensures { AreEventCounts log.now result }
-{
-    let execution = log.execution();
-    let mut counts = [0; MAX_NODES as usize];
-    for position in 0..execution.len() {
-        let node = node_of(execution, EventId(position));
-        counts[node.0 as usize] += 1;
-    }
-    counts
-}
 
 // The node of an event.
 pub(crate) fn node_of(execution: &Execution, event: EventId) -> NodeId
@@ -35,23 +24,24 @@ pub(crate) fn node_of(execution: &Execution, event: EventId) -> NodeId
     execution.get(event).unwrap().node
 }
 
-// Adds the row of a node that has so many events.
+// Adds the row of a node, of whose events this was counted.
 fn push_node<W: Write>(
     rows: &mut RowBuffer,
     nodes: &Names,
     log: &OrderedLog,
     node: NodeId,
-    events: u32,
+    tally: NodeTally,
     writer: &mut W,
 ) -> Result<(), OutputFault>
     requires ordered { IsInOrder log.now }
     requires node { node.0 < MAX_NODES }
-    requires events { events ≡ events_at log.now node.0 }
+    requires events { tally.events ≡ events_at log.now node.0 }
+    requires furthest { tally.furthest ≡ furthest_in log.now (length log.now.events) node.0 }
     ensures { OnOk result (AddsRow W.contents writer.old writer.new rows.old rows.new (node_row nodes.now log.now node.0)) }
 {
-    let events = Number(u64::from(events));
+    let events = Number(u64::from(tally.events));
     let (word, name) = (Text(b"node"), Text(node_name(nodes, node)));
-    match drift_of(log, node) {
+    match drift_from(log, node, tally.furthest) {
         None => rows.push(&[word, name, events, Text(b"none")], writer),
         Some(drift) => {
             let line = Number(u64::from(log.event(drift.event).line));
@@ -73,10 +63,10 @@ pub(crate) fn push_nodes<W: Write>(
     requires nodes { length nodes.now ≤ MAX_NODES }
     ensures { OnOk result (AddsRows W.contents writer.old writer.new rows.old rows.new (node_rows nodes.now log.now)) }
 {
-    let counts = count_events(log);
+    let tallies = tally_nodes(log);
     for node in 0..nodes.len() {
-        let events = counts[node];
-        push_node(rows, nodes, log, NodeId(node as u16), events, writer)?;
+        let tally = tallies[node];
+        push_node(rows, nodes, log, NodeId(node as u16), tally, writer)?;
     }
     Ok(())
 }

@@ -3,7 +3,8 @@ ghost use Rattle.hlc_csv.specs.Rows.{AddsRows, Fields};
 ghost use Rattle.hlc_log_report.specs.InOrder.{IsInOrder, reading_told, skeleton_of};
 ghost use Rattle.hlc_log_report.specs.Messages.{message_counts};
 ghost use Rattle.hlc_log_report.specs.Skew.{AreSkews};
-ghost use Rattle.hlc_log_audit.specs.Report.{AreCountsOf, IsReport};
+ghost use Rattle.hlc_log_report.specs.Counts.{AreCounted};
+ghost use Rattle.hlc_log_audit.specs.Report.{IsReport};
 
 use crate::causes::push_causes;
 use crate::counts::push_counts;
@@ -33,7 +34,7 @@ pub fn push_report<W: Write>(
 ) -> Result<(), OutputFault>
     requires ordered { IsInOrder log.now }
     requires nodes { length nodes.now ≤ MAX_NODES }
-    requires counts { AreCountsOf log.now full counts }
+    requires counts { AreCounted log.now full counts }
     requires messages { messages ≡ message_counts log.now }
     requires skews { AreSkews (skeleton_of log.now) (reading_told log.now) skews.now }
     ensures { OnOk result ((report : List Fields) × IsReport nodes.now log.now full report

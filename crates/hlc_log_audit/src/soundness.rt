@@ -1,9 +1,10 @@
 // Whether anything in a log is broken, or over a limit.
 
-ghost use Rattle.std.specs.Prelude.{◌↔◌, IsTrue};
+ghost use Rattle.std.specs.Prelude.{◌↔◌, ◌<◌, IsTrue, length};
 ghost use Rattle.hlc_log_text.specs.StampForms.{greatest_c};
-ghost use Rattle.hlc_log_audit.specs.Audit.{CarriesWrongly, ClaimsOver, ExceedsLimit, IsOutcome, IsOverLimit, TellsDisorder};
-ghost use Rattle.hlc_log_audit.specs.Report.{AreCountsOf};
+ghost use Rattle.hlc_log_report.specs.InOrder.{IsInOrder};
+ghost use Rattle.hlc_log_audit.specs.Audit.{CarriesWrongly, ClaimsOver, ExceedsLimit, IsBeyond, IsOutcome, IsOverLimit, TellsDisorder};
+ghost use Rattle.hlc_log_report.specs.Counts.{AreCounted};
 
 use crate::claimed_ahead::claimed_ahead;
 use crate::outcome::Outcome;
@@ -30,17 +31,25 @@ pub(crate) fn carries_wrongly(log: &OrderedLog) -> bool
     false
 }
 
+// Whether the drift of an event exceeds a limit. If its reading isn't told, it says nothing of a clock.
+fn is_beyond(log: &OrderedLog, limit: u64, position: EventId) -> bool
+    requires ordered { IsInOrder log.now }
+    requires exists { position.0 < length log.now.events }
+    ensures { IsTrue result ↔ IsBeyond limit log.now position.0 }
+{
+    log.execution().get(position).unwrap().drift() > limit && log.has_reading(position)
+}
+
 // Whether a drift exceeds a limit, if there is one.
 fn exceeds_limit(log: &OrderedLog, limit: Option<u64>) -> bool
+    requires { IsInOrder log.now }
     ensures { IsTrue result ↔ ExceedsLimit limit log.now }
 {
     let Some(limit) = limit else {
         return false;
     };
-    let execution = log.execution();
-    for position in 0..execution.len() {
-        let event = execution.get(EventId(position)).unwrap();
-        if event.drift() > limit {
+    for position in 0..log.len() {
+        if is_beyond(log, limit, EventId(position)) {
             return true;
         }
     }
@@ -64,6 +73,7 @@ fn claims_over(log: &OrderedLog, limit: Option<u64>) -> bool
 
 // Whether a log is over a limit, if there is one.
 fn is_over_limit(log: &OrderedLog, limit: Option<u64>) -> bool
+    requires { IsInOrder log.now }
     ensures { IsTrue result ↔ IsOverLimit limit log.now }
 {
     exceeds_limit(log, limit) || claims_over(log, limit)
@@ -71,7 +81,8 @@ fn is_over_limit(log: &OrderedLog, limit: Option<u64>) -> bool
 
 // What is to be said of a log whose stamps have these verdicts.
 pub(crate) fn outcome(log: &OrderedLog, counts: Counts, rules: AuditRules) -> Outcome
-    requires { AreCountsOf log.now (greatest_c rules.records.form) counts }
+    requires ordered { IsInOrder log.now }
+    requires counts { AreCounted log.now (greatest_c rules.records.form) counts }
     ensures { IsOutcome rules log.now result }
 {
     let over_limit = is_over_limit(log, rules.limit);

@@ -2,8 +2,7 @@
 
 ghost use Rattle.std.specs.Prelude.{◌≡◌, OnOk};
 ghost use Rattle.hlc_csv.specs.Rows.{AddsRow};
-ghost use Rattle.hlc_causes.specs.Words.{finding_word};
-ghost use Rattle.hlc_log_audit.specs.Words.{missing_row};
+ghost use Rattle.hlc_log_audit.specs.Words.{found_word, missing_row};
 
 use hlc_causes::Finding;
 use hlc_csv::{OutputFault, RowBuffer};
@@ -22,16 +21,17 @@ pub(crate) fn push_missing<W: Write>(
     rows.push_refusal(missing.word(), writer)
 }
 
-// What is found of a claimed stamp.
-pub(crate) fn finding_word(finding: Finding) -> &'static [u8]
-    ensures { result.now ≡ finding_word finding }
+// What is found of a claimed stamp, or that none is claimed.
+pub(crate) fn found_word(found: Option<Finding>) -> &'static [u8]
+    ensures { result.now ≡ found_word found }
 {
-    match finding {
-        Finding::Judged(Verdict::Behind) => b"behind",
-        Finding::Judged(Verdict::NotAbove(_)) => b"not-above",
-        Finding::Judged(Verdict::Low(_)) => b"low",
-        Finding::Judged(Verdict::Least) => b"least",
-        Finding::Judged(Verdict::Ahead(_)) => b"ahead",
-        Finding::RolledOver => b"carried",
+    match found {
+        Some(Finding::Judged(Verdict::Behind)) => b"behind",
+        Some(Finding::Judged(Verdict::NotAbove(_))) => b"not-above",
+        Some(Finding::Judged(Verdict::Low(_))) => b"low",
+        Some(Finding::Judged(Verdict::Least)) => b"least",
+        Some(Finding::Judged(Verdict::Ahead(_))) => b"ahead",
+        Some(Finding::RolledOver) => b"carried",
+        None => b"unstamped",
     }
 }

@@ -13,6 +13,7 @@ use Rattle.hlc_log_text.specs.declared.log_text.LogText.{LogText}
 use Rattle.hlc_log_audit.specs.Audit.{IsAudited, IsTextAudited, audited_events}
 use Rattle.hlc_log_audit.specs.declared.outcome.Outcome.TheVariants as outcome
 use Rattle.hlc_log_audit.specs.declared.rules.AuditRules.{AuditRules}
+use Rattle.hlc_log_report.specs.InOrder.{AreFilled}
 use Rattle.hlc_log_picture.specs.Drawn.{DrawnLog, IsDrawnOf, drawn_log, drawn_log_chain}
 use Rattle.hlc_log_picture.specs.Viewed.{HasNoRow, IsRowOn, IsViewAround, IsViewBetween}
 use Rattle.hlc_command_line.specs.declared.line_order.DrawLogOptions.{DrawLogOptions}
@@ -35,6 +36,12 @@ drawn_text options text = record text { log = record text.log { events = audited
 -- a log that was read has these events, names and labels
 pub record IsMadeOf (text : LogText) (events : List LogEvent) (nodes : List (List ℕ)) (labels : List (ℕ × List ℕ)) : Type 0 where
   pub events_are : events ≡ text.log.events
+  pub nodes_are : nodes ≡ text.nodes
+  pub labels_are : labels ≡ text.labels
+
+-- it has these events once each without a stamp is given one, and these names and labels
+pub record IsFilledOf (text : LogText) (events : List LogEvent) (nodes : List (List ℕ)) (labels : List (ℕ × List ℕ)) : Type 0 where
+  pub events_are : AreFilled text.log.events events
   pub nodes_are : nodes ≡ text.nodes
   pub labels_are : labels ≡ text.labels
 

@@ -1,6 +1,6 @@
 // The picture of another system's log.
 
-ghost use Rattle.std.specs.Prelude.{◌≡◌, ◌↔◌, ◌≤◌, All, IfErr, IsErrOf, IsTrue, OnOk, length};
+ghost use Rattle.std.specs.Prelude.{◌≡◌, ◌↔◌, ◌*◌, ◌≤◌, All, IfErr, IsErrOf, IsTrue, OnOk, length};
 ghost use Rattle.hlc_stamp.specs.declared.limits.TheConstants.{MAX_CAPACITY, MAX_NODES};
 ghost use Rattle.hlc_log.specs.Events.{IsInRange, IsNumbered};
 ghost use Rattle.hlc_log_text.specs.ReadLog.{HasTooMany};
@@ -9,7 +9,7 @@ ghost use Rattle.hlc_log_audit.specs.Lines.{LinesRise};
 ghost use Rattle.hlc_log_picture.specs.Drawn.{HaveNames};
 ghost use Rattle.hlc_command_line.specs.declared.line_order.LogPart.TheVariants.{Chain, Rows};
 ghost use Rattle.hlc_command_fault.specs.Fault.{IsOfAnswer, IsOfInput};
-ghost use Rattle.hlc_log_commands.specs.DrawnLog.{IsAbsent, IsLogDrawnBut, IsLogDrawnUpTo, IsLogDrawnUpToBut, IsLogDrawnWhole, IsMadeOf, IsPartDrawn, IsTextDrawn, IsTextDrawnBut, IsTextLacking, IsViewOf, LacksNamed, drawn_text, line_of_rows, reading_rules};
+ghost use Rattle.hlc_log_commands.specs.DrawnLog.{IsAbsent, IsFilledOf, IsLogDrawnBut, IsLogDrawnUpTo, IsLogDrawnUpToBut, IsLogDrawnWhole, IsMadeOf, IsPartDrawn, IsTextDrawn, IsTextDrawnBut, IsTextLacking, IsViewOf, LacksNamed, drawn_text, line_of_rows, reading_rules};
 
 use hlc_command_fault::CommandFault;
 use hlc_command_line::{DrawLogOptions, LogPart, LogRows};
@@ -127,9 +127,9 @@ fn draw_ordered<O: Write>(
     requires few { length nodes.now ≤ MAX_NODES }
     requires named { HaveNames log.events nodes.now }
     requires receives { log.receives ≡ options.records.receives }
-    ensures done { OnOk result ((text : LogText) → IsMadeOf text log.events nodes.now labels.now →
+    ensures done { OnOk result ((text : LogText) → IsFilledOf text log.events nodes.now labels.now →
         IsTextDrawn options text (O.contents writer.old) (O.contents writer.new)) }
-    ensures without { IsErrOf result DrawFault.NoEvent → (text : LogText) → IsMadeOf text log.events nodes.now labels.now →
+    ensures without { IsErrOf result DrawFault.NoEvent → (text : LogText) → IsFilledOf text log.events nodes.now labels.now →
         IsTextLacking options text (O.contents writer.old) (O.contents writer.new) }
 {
     let log = in_row_order(alloc, log, messages)?;
@@ -164,7 +164,7 @@ fn draw_events<O: Write>(
     requires rise { LinesRise log.events }
     requires few { length nodes.now ≤ MAX_NODES }
     requires named { HaveNames log.events nodes.now }
-    requires messages { messages ≤ MAX_CAPACITY }
+    requires messages { messages ≤ 2 * MAX_CAPACITY }
     ensures done { OnOk result ((text : LogText) → IsMadeOf text log.events nodes.now labels.now →
         IsTextDrawn options (drawn_text options text) (O.contents writer.old) (O.contents writer.new)) }
     ensures told { IfErr result (λ fault. IsOfAnswer fault → (text : LogText) → IsMadeOf text log.events nodes.now labels.now →
@@ -197,7 +197,7 @@ fn draw_text<O: Write>(
     requires rise { LinesRise text.log.events }
     requires few { length text.nodes ≤ MAX_NODES }
     requires named { HaveNames text.log.events text.nodes }
-    requires messages { text.messages ≤ MAX_CAPACITY }
+    requires messages { text.messages ≤ 2 * MAX_CAPACITY }
     ensures done { OnOk result (IsTextDrawn options (drawn_text options text) (O.contents writer.old) (O.contents writer.new)) }
     ensures told { IfErr result (λ fault. IsOfAnswer fault → IsTextDrawnBut fault options text
         (O.contents writer.old) (O.contents writer.new)) }

@@ -1,8 +1,10 @@
 -- The audit of a history's own log.
-use Rattle.std.proofs.Common.{◌≡◌, ◌∙◌, Bool, false, true, not, ℕ, ◌<◌, inl, inr, List, [], ◌∷◌, ◌++◌, length, Option, None, append-nil, arith, refl, subst, sym, ap}
-use Rattle.std.specs.Prelude.{if◌then◌else◌, ◌==◌, codes, decimal}
+use Rattle.std.proofs.Common.{◌≡◌, ◌∙◌, Bool, false, true, cond, not, ℕ, zero, suc, ◌+◌, ◌<◌, inl, inr, List, [], ◌∷◌, ◌++◌, length, Option, None, append-nil, arith, refl, subst, sym, ap}
+use Rattle.std.specs.Prelude.{codes, count_by}
 use Rattle.std.proofs.lemmas.Bool.{cases_lt}
-use Rattle.std.proofs.lemmas.List.{get_or_past}
+use Rattle.std.proofs.lemmas.List.{ext_get_or, get_or_past}
+use Rattle.std.proofs.lemmas.List.Sums.{fold-append}
+use Rattle.hlc_causality.specs.Places.{places_below}
 use Rattle.hlc_causality.specs.declared.receives.Receives.TheVariants.{Tick}
 use Rattle.hlc_arena.specs.History.{History}
 use Rattle.hlc_csv.specs.Rows.{Fields}
@@ -17,29 +19,35 @@ use Rattle.hlc_log.proofs.UnsentEvents.{nothing_taken}
 use Rattle.hlc_log_text.specs.StampForms.{greatest_c}
 use Rattle.hlc_log_text.specs.declared.log_text.LogText.{LogText}
 use Rattle.hlc_log_text.specs.declared.question.LogQuestion.{LogQuestion}
-use Rattle.hlc_log_audit.specs.Audit.{IsTextAudited, IsTold, all_asked, missing_rows, outside_row, unread_row}
+use Rattle.hlc_log_audit.specs.Audit.{IsTextAudited, IsTold, all_asked, counted_row, missing_rows, unread_row, unstamped_row}
 use Rattle.hlc_log_audit.specs.Report.{IsReport}
 use Rattle.hlc_log_audit.specs.declared.outcome.Outcome.{Outcome}
 use Rattle.hlc_log_audit.specs.declared.outcome.Outcome.TheVariants as outcome
 use Rattle.hlc_log_audit.proofs.BrokenStamps.{counted_is_there}
-use Rattle.hlc_log_report.specs.InOrder.{LogInOrder}
-use Rattle.hlc_log_report.specs.Outside.{from_outside_count, is_from_outside}
-use Rattle.hlc_log_report.specs.Unread.{is_unread, unread_count}
+use Rattle.hlc_log_report.specs.InOrder.{AreFilled, stamp_told}
+use Rattle.hlc_log_report.specs.Outside.{is_from_outside}
+use Rattle.hlc_log_report.specs.Unread.{is_unread}
+use Rattle.hlc_log_report.specs.Unstamped.{is_unstamped}
+use Rattle.hlc_log_report.proofs.Filled.{filled_told}
+use Rattle.hlc_log_report.proofs.Ordering.{order_len}
 use Rattle.hlc_log_audit.proofs.CleanReports.{least_stamps_are_sound, least_stamps_report_clean}
 use Rattle.hlc_log_audit.proofs.SameAudits.{told_report}
 use Rattle.hlc_history_log.specs.Laws.{IsClocked, IsLogRead}
-use Rattle.hlc_history_log.proofs.LogLaws.{log_is_read, logs_audit_clean, logs_have_an_order, logs_tell_events_alone, logs_tell_nothing_carried, logs_tell_readings}
+use Rattle.hlc_history_log.proofs.HistoryLogs.{IsHistoryLog}
+use Rattle.hlc_history_log.proofs.InOrder.{stamps_told}
+use Rattle.hlc_history_log.proofs.LogLaws.{log_is_read, logs_audit_clean, logs_have_an_order, logs_tell_events_alone, logs_tell_nothing_carried, logs_tell_readings, logs_tell_stamps}
 use Rattle.hlc_log_examples.specs.Laws.{HistoriesAuditSound, IsFoundSound, plain_rules}
 
--- a log that tells each reading counts none that it doesn't
-none_unread : (events : List LogEvent) → ((e : ℕ) → e < length events → (event_at events e).has_reading ≡ true) → unread_row events ≡ []
-none_unread events read = elim (cases_lt 0 (unread_count events)) [
+-- what is so of no event has no row
+none_counted : (word : List ℕ) (test : LogEvent → Bool) (events : List LogEvent)
+    → ((e : ℕ) → e < length events → test (event_at events e) ≡ false) → counted_row word (count_by test events) ≡ []
+none_counted word test events none = elim (cases_lt 0 (count_by test events)) [
   | inl some ↦
-      let at = counted_is_there is_unread events no_event some in
-      absurd (let bad : ◌≡◌ {A = Bool} false true = subst (λ (b : Bool). not b ≡ true) (read at.0 at.1) at.2 in cc bad)
-  | inr none ↦
-      let zero : unread_count events ≡ 0 = omega arith in
-      ap (λ (n : ℕ). if n == 0 then [] else (codes "unread" ∷ decimal n ∷ []) ∷ []) zero
+      let at = counted_is_there test events no_event some in
+      absurd (let bad : ◌≡◌ {A = Bool} false true = sym (none at.0 at.1) ∙ at.2 in cc bad)
+  | inr none_there ↦
+      let zero : count_by test events ≡ 0 = omega arith in
+      ap (counted_row word) zero
 ]
 
 -- an event with no rule of its own isn't from outside
@@ -50,16 +58,34 @@ with_no_rule event (kind.Receive m) none = refl
 with_no_rule event kind.Restart none = refl
 with_no_rule event kind.Outside none = absurd (cc none)
 
-none_outside : (events : List LogEvent) → ((e : ℕ) → e < length events → own_rule Tick (event_at events e) ≡ None) → outside_row events ≡ []
-none_outside events ruled = elim (cases_lt 0 (from_outside_count events)) [
-  | inl some ↦
-      let at = counted_is_there (λ (event : LogEvent). is_from_outside event.kind) events no_event some in
-      let event = event_at events at.0 in
-      absurd (let bad : ◌≡◌ {A = Bool} false true = sym (with_no_rule event event.kind (ruled at.0 at.1)) ∙ at.2 in cc bad)
-  | inr none ↦
-      let zero : from_outside_count events ≡ 0 = omega arith in
-      ap (λ (n : ℕ). if n == 0 then [] else (codes "outside" ∷ decimal n ∷ []) ∷ []) zero
-]
+-- so it is of events that tell their readings and their stamps and have no rule of their own
+none_missing : (events : List LogEvent) → ((e : ℕ) → e < length events → own_rule Tick (event_at events e) ≡ None)
+    → ((e : ℕ) → e < length events → (event_at events e).has_reading ≡ true)
+    → ((e : ℕ) → e < length events → (event_at events e).has_stamp ≡ true) → missing_rows events ≡ []
+none_missing events ruled read stamped =
+    ap (λ (rows : List Fields). rows ++ (unread_row events ++ unstamped_row events))
+    (none_counted (codes "outside") (λ event. is_from_outside event.kind) events (λ e lt. with_no_rule (event_at events e) (event_at events e).kind (ruled e lt)))
+    ∙ ap (λ (rows : List Fields). rows ++ unstamped_row events)
+    (none_counted (codes "unread") is_unread events (λ e lt. ap not (read e lt)))
+    ∙ none_counted (codes "unstamped") is_unstamped events (λ e lt. ap not (stamped e lt))
+
+-- events that tell their stamps are filled in as they are
+all_told_filled : (events filled : List LogEvent) → ((e : ℕ) → e < length events → (event_at events e).has_stamp ≡ true) → AreFilled events filled
+    → filled ≡ events
+all_told_filled events filled told are =
+    ext_get_or no_event filled events are.one_each (λ e lt.
+    let size = are.one_each in
+    let within : e < length events = omega arith in
+    filled_told events filled are e within (told e within))
+
+-- a test that holds of each place holds of all
+all_counted : (test : ℕ → Bool) (n : ℕ) → ((k : ℕ) → k < n → test k ≡ true) → count_by test (places_below n) ≡ n
+all_counted test zero each = refl
+all_counted test (suc n) each =
+    let before = all_counted test n (λ k lt. each k (omega arith)) in
+    let last : ◌≡◌ {A = ℕ} (cond (test n) 1 0) 1 = ap (λ (b : Bool). cond b 1 0) (each n (omega arith)) in
+    let more = fold-append (λ (m : ℕ) (k : ℕ). m + cond (test k) 1 0) 0 (places_below n) (n ∷ []) in
+    omega (arith, more, before, last)
 
 module _ (h : History) (clocked : IsClocked h) (report : Bool) (text : LogText) (read : IsLogRead h text) where
   -- no message is told to have carried anything, so nothing came in from outside
@@ -72,12 +98,14 @@ module _ (h : History) (clocked : IsClocked h) (report : Bool) (text : LogText) 
   taken : text.log.events ≡ with_unsent false text.log.events
   taken = nothing_taken text.log.events untold
 
-  none_missing : (log : LogInOrder) → log.events ≡ text.log.events → missing_rows log.events ≡ []
-  none_missing log same =
-      subst (λ (events : List LogEvent). missing_rows events ≡ []) (sym same)
-      (ap (λ (rows : List Fields). rows ++ unread_row text.log.events)
-      (none_outside text.log.events (λ e lt. (log_is_read h clocked text read).no_rule Tick e (let size = (log_is_read h clocked text read).size in omega arith)))
-      ∙ none_unread text.log.events (λ e lt. logs_tell_readings h text e clocked read lt))
+  is_history : IsHistoryLog h.events text.log.events
+  is_history = log_is_read h clocked text read
+
+  nothing_missing : missing_rows text.log.events ≡ []
+  nothing_missing = none_missing text.log.events
+      (λ e lt. is_history.no_rule Tick e (let size = is_history.size in omega arith))
+      (λ e lt. logs_tell_readings h text e clocked read lt)
+      (λ e lt. logs_tell_stamps h text e clocked read lt)
 
   told_sound : (before after : Option (List ℕ)) (result : Outcome) → IsTold text (plain_rules report) [] before after result
       → IsFoundSound h before after result
@@ -85,7 +113,12 @@ module _ (h : History) (clocked : IsClocked h) (report : Bool) (text : LogText) 
       let rules = plain_rules report in
       let alone = logs_tell_events_alone h text clocked read in
       let log = told.log in
-      let events : log.events ≡ text.log.events = told.events ∙ sym taken in
+      let filled : AreFilled text.log.events log.events =
+      subst (λ (events : List LogEvent). AreFilled events log.events) (sym taken) told.events in
+      let events : log.events ≡ text.log.events =
+      all_told_filled text.log.events log.events (λ e lt. logs_tell_stamps h text e clocked read lt) filled in
+      let told_each : (k : ℕ) → k < length log.order → stamp_told log k ≡ true =
+      stamps_told h.events log (subst (IsHistoryLog h.events) (sym events) is_history) told.in_order.causal in
       let clean = logs_audit_clean h text log clocked read told.receives events told.in_order in
       let same = clean.0 in
       let right = clean.1 in
@@ -95,7 +128,7 @@ module _ (h : History) (clocked : IsClocked h) (report : Bool) (text : LogText) 
       subst (IsReport text.nodes log (greatest_c rules.records.form))
       (sym (
       whole.4
-      ∙ ap (λ (missing : List Fields). ((whole.0 ++ []) ++ missing) ++ whole.1) (none_missing log events)
+      ∙ ap (λ (missing : List Fields). ((whole.0 ++ []) ++ missing) ++ whole.1) (ap missing_rows events ∙ nothing_missing)
       ∙ ap (λ (over : List Fields). ((whole.0 ++ []) ++ []) ++ over) whole.3
       ∙ append-nil ((whole.0 ++ []) ++ []) ∙ append-nil (whole.0 ++ []) ∙ append-nil whole.0
       )) whole.2 in
@@ -109,6 +142,7 @@ module _ (h : History) (clocked : IsClocked h) (report : Bool) (text : LogText) 
         in_order = told.in_order;
         rows = told.rows;
         one_each = ap (λ (all : List LogEvent). length all) events ∙ alone.0;
+        all_told = all_counted (stamp_told log) (length log.order) told_each ∙ order_len log.events log.order told.in_order.causal;
         clean =
             least_stamps_report_clean text.nodes log (greatest_c rules.records.form) told.rows told.in_order same right is_report;
         written = told.written;

@@ -8,6 +8,7 @@ use Rattle.hlc_csv.specs.Rows.{Fields, text_of}
 use Rattle.hlc_log_text.specs.LogRules.{exact_rules}
 use Rattle.hlc_log_text.specs.declared.log_text.LogText.{LogText}
 use Rattle.hlc_log_text.specs.declared.stamp_form.StampForm.TheVariants.{Pair}
+use Rattle.hlc_log_report.specs.Counts.{told_count}
 use Rattle.hlc_log_report.specs.InOrder.{IsInOrder, LogInOrder}
 use Rattle.hlc_log_audit.specs.Audit.{IsWholeAudited}
 use Rattle.hlc_log_audit.specs.Laws.{IsCleanReport}
@@ -22,7 +23,7 @@ abbrev pub plain_rules : (report : Bool) → AuditRules
 plain_rules report = record { records = exact_rules Pair; unsent_local = false; limit = None; report = report }
 
 -- the audit found nothing wrong with a history, and the writer got the report on its log that says so: the count of its events, all of them
--- least, its nodes, its messages and its skews
+-- told and least, its nodes, its messages and its skews
 pub record IsFoundSound (h : History) (before after : Option (List ℕ)) (result : Outcome) : Type 0 where
   pub sound : result ≡ Sound
   pub text : LogText
@@ -32,6 +33,7 @@ pub record IsFoundSound (h : History) (before after : Option (List ℕ)) (result
   pub events : log.events ≡ text.log.events
   pub in_order : IsInOrder log
   pub one_each : length log.events ≡ length h.events
+  pub all_told : told_count log ≡ length log.events
   pub rows : List Fields
   pub clean : IsCleanReport text.nodes log rows
   pub written : Appends before after (text_of rows)

@@ -3,7 +3,7 @@
 ghost use Rattle.std.specs.Prelude.{◌≡◌, All, IfErr, IfOk};
 ghost use Rattle.hlc_log.specs.Events.{IsInRange, IsNumbered};
 ghost use Rattle.hlc_log.specs.Faults.{IsFaultOf};
-ghost use Rattle.hlc_log_report.specs.InOrder.{IsInOrder, LogInOrder};
+ghost use Rattle.hlc_log_report.specs.InOrder.{AreFilled, IsInOrder, LogInOrder};
 ghost use Rattle.hlc_log_report.specs.Messages.{message_counts};
 
 use hlc_causality::Receives;
@@ -16,7 +16,7 @@ pub fn messages_of(alloc: Global, log: Log, messages: u32) -> Result<MessageCoun
     requires numbered { All (IsNumbered messages) log.events }
     requires in_range { All IsInRange log.events }
     ensures counts { IfOk result (λ counts. (ordered : LogInOrder) × IsInOrder ordered
-        × (ordered.events ≡ log.events) × (counts ≡ message_counts ordered)) }
+        × AreFilled log.events ordered.events × (counts ≡ message_counts ordered)) }
     ensures fault { IfErr result (IsFaultOf log.events) }
 {
     let order = causal_order(alloc, &log, messages)?;

@@ -1,6 +1,6 @@
 -- The laws of the pictures of logs.
 use Rattle.std.proofs.Common.{◌≡◌, ℕ, ◌<◌, inl, inr, List, length, Option, Some, None, arith, refl, subst, sym, ap, ◌∙◌}
-use Rattle.std.specs.Prelude.{codes, option_and_then}
+use Rattle.std.specs.Prelude.{codes, option_and_then, true, false}
 use Rattle.std.proofs.lemmas.List.{get_or-map, length-map}
 use Rattle.hlc_stamp.specs.Order.{Pair}
 use Rattle.hlc_causality.specs.Assignment.{IsLeast}
@@ -30,7 +30,8 @@ use Rattle.std.proofs.lemmas.List.Quantifiers.{position-Some}
 use Rattle.hlc_log.proofs.OrderSkeletons.{length-skeleton_in, needed_before, place_exists, place_of_position, sends_if, skeleton_in_at}
 use Rattle.hlc_causes.specs.Words.{finding_word}
 use Rattle.hlc_log_report.proofs.EventsInOrder.{length-skeleton_of}
-use Rattle.hlc_log_report.specs.InOrder.{IsInOrder, LogInOrder, clocks_of, seen_of, skeleton_of}
+use Rattle.hlc_log_report.specs.Found.{FindsAt}
+use Rattle.hlc_log_report.specs.InOrder.{IsInOrder, LogInOrder, clocks_of, seen_of, skeleton_of, stamp_told}
 use Rattle.hlc_verdict.specs.declared.claim.Claim.{Claim}
 use Rattle.hlc_verdict.specs.declared.verdict.Verdict.{Verdict}
 use Rattle.hlc_verdict.specs.declared.verdict.Verdict.TheVariants as verdict
@@ -39,7 +40,7 @@ use Rattle.hlc_verdict.specs.Verdict.{AreVerdicts, verdict_of}
 use Rattle.hlc_verdict.specs.VerdictLaws.{verdict_at}
 use Rattle.hlc_log_picture.specs.Judged.{event_finding_at}
 use Rattle.hlc_log_picture.specs.Laws.{AreClaimsSeen, FormsAreVerdicts, FormsTellWords, LegendTellsForms, LogsSendFirst, RingsAreCauses, TellsVerdict, VerdictsFit}
-use Rattle.hlc_log_picture.specs.Looks.{form_of}
+use Rattle.hlc_log_picture.specs.Looks.{form_of, form_of_found}
 
 -- the word that a form stands for
 abbrev word_of : Form → List ℕ
@@ -62,12 +63,13 @@ pub forms_tell_words : FormsTellWords
 forms_tell_words f g same = word_is f ∙ ap word_of same ∙ sym (word_is g)
 
 pub verdicts_fit : VerdictsFit
-verdicts_fit (Judged verdict.Least) = omega arith
-verdicts_fit (Judged verdict.Behind) = omega arith
-verdicts_fit (Judged (verdict.NotAbove d)) = omega arith
-verdicts_fit (Judged (verdict.Low least)) = omega arith
-verdicts_fit (Judged (verdict.Ahead least)) = omega arith
-verdicts_fit RolledOver = omega arith
+verdicts_fit (Some (Judged verdict.Least)) = omega arith
+verdicts_fit (Some (Judged verdict.Behind)) = omega arith
+verdicts_fit (Some (Judged (verdict.NotAbove d))) = omega arith
+verdicts_fit (Some (Judged (verdict.Low least))) = omega arith
+verdicts_fit (Some (Judged (verdict.Ahead least))) = omega arith
+verdicts_fit (Some RolledOver) = omega arith
+verdicts_fit None = omega arith
 
 pub legend_tells_forms : LegendTellsForms
 legend_tells_forms (Judged verdict.Least) = (0, omega arith, refl)
@@ -114,10 +116,15 @@ tells : (log : LogInOrder) (full k : ℕ) (v : Verdict) (f : Finding) → v ≡ 
 tells log full k v (Judged w) is named = inl (ap (λ (x : Verdict). form_of (Judged x)) (named.0 ∙ sym is))
 tells log full k v RolledOver is named = inr (refl, named)
 
+tells_found : (log : LogInOrder) (full k : ℕ) (v : Verdict) (f : Option Finding) → v ≡ verdict_on (clocks_of log) (seen_of log k) log.least k
+    → stamp_told log k ≡ true → FindsAt log full k f → TellsVerdict log full k v (form_of_found f)
+tells_found log full k v None is told untold = let bad : true ≡ false = sym told ∙ untold in absurd cc
+tells_found log full k v (Some f) is told named = tells log full k v f is named.1
+
 pub forms_are_verdicts : FormsAreVerdicts
-forms_are_verdicts log full findings k claims verdicts ticks ordered judged are verdicts_are lt =
-    tells log full k (verdict_at verdicts k) (event_finding_at findings k).finding (verdict_here log ticks k claims verdicts ordered are verdicts_are lt)
-    (judged.each k lt).finding
+forms_are_verdicts log full findings k claims verdicts ticks ordered judged are verdicts_are lt told =
+    tells_found log full k (verdict_at verdicts k) (event_finding_at findings k).finding
+    (verdict_here log ticks k claims verdicts ordered are verdicts_are lt) told (judged.each k lt).finding
 
 -- each receive is of an earlier event
 and_then_found : (f : ℕ → Option ℕ) (o : Option ℕ) (i : ℕ) → option_and_then f o ≡ Some i → (x : ℕ) × (o ≡ Some x) × (f x ≡ Some i)

@@ -3,8 +3,6 @@ use Rattle.std.proofs.Common.{◌≡◌, ◌∙◌, ℕ, ◌<◌, ◌≤◌, ◌
 use Rattle.std.specs.Prelude.{false, slice_index_or}
 use Rattle.std.proofs.lemmas.List.{get_or_default}
 use Rattle.hlc_causes.specs.declared.answers.Finding.{Finding}
-use Rattle.hlc_causes.specs.declared.answers.Finding.TheVariants.{Judged}
-use Rattle.hlc_verdict.specs.declared.verdict.Verdict.TheVariants.{Least}
 use Rattle.hlc_diagram.specs.Chosen.{IsMissing}
 use Rattle.hlc_svg.specs.declared.numbers.FirstDigits.{FirstDigits}
 use Rattle.hlc_log.specs.declared.log_event.LogEvent.{LogEvent}
@@ -40,16 +38,16 @@ kept_in inside drawn e same judged exists =
 pub finding_here : (findings : List EventFinding) (e : ℕ) (event_finding : EventFinding) → e < length findings
     → event_finding ≡ slice_index_or findings e event_finding → event_finding ≡ event_finding_at findings e
 finding_here findings e event_finding lt is =
-    is ∙ get_or_default findings e event_finding (record { finding = Judged Least; is_cause = false }) lt
+    is ∙ get_or_default findings e event_finding (record { finding = None; is_cause = false }) lt
 
 -- the cell of an event, its width and what a title tells, by what is known of the event
-pub cell_is : (old : List ℕ) (first all : FirstDigits) (event other : LogEvent) (found known : Finding) (label named : Option (List ℕ)) (column : ℕ)
+pub cell_is : (old : List ℕ) (first all : FirstDigits) (event other : LogEvent) (found known : Option Finding) (label named : Option (List ℕ)) (column : ℕ)
     → first ≡ all → event ≡ other → found ≡ known → label ≡ named
     → old ++ cell_text first event found label column ≡ old ++ cell_text all other known named column
 cell_is old first all event other found known label named column first_is event_is found_is label_is =
     ap (λ (x : FirstDigits). old ++ cell_text x event found label column) first_is
     ∙ ap (λ (x : LogEvent). old ++ cell_text all x found label column) event_is
-    ∙ ap (λ (x : Finding). old ++ cell_text all other x label column) found_is
+    ∙ ap (λ (x : Option Finding). old ++ cell_text all other x label column) found_is
     ∙ ap (λ (x : Option (List ℕ)). old ++ cell_text all other known x column) label_is
 
 pub width_is : (first all : FirstDigits) (event other : LogEvent) (label named : Option (List ℕ)) (column : ℕ)
@@ -59,11 +57,11 @@ width_is first all event other label named column first_is event_is label_is =
     ∙ ap (λ (x : LogEvent). cell_width all x label column) event_is
     ∙ ap (λ (x : Option (List ℕ)). cell_width all other x column) label_is
 
-pub fact_is : (old : List ℕ) (event other : LogEvent) (found known : Finding) (label named : Option (List ℕ)) (column : ℕ)
+pub fact_is : (old : List ℕ) (event other : LogEvent) (found known : Option Finding) (label named : Option (List ℕ)) (column : ℕ)
     → event ≡ other → found ≡ known → label ≡ named → old ++ fact_text event found label column ≡ old ++ fact_text other known named column
 fact_is old event other found known label named column event_is found_is label_is =
     ap (λ (x : LogEvent). old ++ fact_text x found label column) event_is
-    ∙ ap (λ (x : Finding). old ++ fact_text other x label column) found_is
+    ∙ ap (λ (x : Option Finding). old ++ fact_text other x label column) found_is
     ∙ ap (λ (x : Option (List ℕ)). old ++ fact_text other known x column) label_is
 
 -- an event is missing from a log if it is missing from what a diagram shows of it

@@ -1,5 +1,5 @@
 -- What the rows of a log's picture say.
-use Rattle.std.specs.Prelude.{ℕ, ◌+◌, ◌-◌, ◌==◌, ◌++◌, List, [], Option, codes, decimal, if◌then◌else◌, max, nat_lt, unwrap_or}
+use Rattle.std.specs.Prelude.{ℕ, ◌+◌, ◌-◌, ◌==◌, ◌++◌, List, [], Option, Some, None, codes, decimal, if◌then◌else◌, max, nat_lt, unwrap_or}
 use Rattle.hlc_causes.specs.declared.answers.Finding.{Finding}
 use Rattle.hlc_causes.specs.declared.answers.Finding.TheVariants.{Judged}
 use Rattle.hlc_diagram.specs.Label.{label_text, label_width}
@@ -24,10 +24,11 @@ clock_text first event = if event.has_reading then row_number first event.readin
 abbrev pub lead_text : LogEvent → List ℕ
 lead_text event = if event.has_reading then ahead_text event.stamp.l event.reading else []
 
--- the word of a verdict, unless it is least
-abbrev pub verdict_text : Finding → List ℕ
-verdict_text (Judged verdict.Least) = []
-verdict_text found = finding_word found
+-- the word of a verdict, unless it is least; or that the log tells no stamp
+abbrev pub verdict_text : Option Finding → List ℕ
+verdict_text None = codes "unstamped"
+verdict_text (Some (Judged verdict.Least)) = []
+verdict_text (Some found) = finding_word found
 
 -- a label, if there is one
 abbrev pub label_of : Option (List ℕ) → List ℕ
@@ -41,7 +42,7 @@ heading_at first column =
     else if column == 2 then codes "ahead" else if column == 3 then codes "verdict" else codes "label"
 
 -- the cell of an event in a column, and how many characters it or the heading has, or may have at most
-abbrev pub cell_text : FirstDigits → LogEvent → Finding → Option (List ℕ) → (column : ℕ) → List ℕ
+abbrev pub cell_text : FirstDigits → LogEvent → Option Finding → Option (List ℕ) → (column : ℕ) → List ℕ
 cell_text first event found label column =
     if column == 0 then stamp_text first event.stamp else if column == 1 then clock_text first event
     else if column == 2 then lead_text event else if column == 3 then verdict_text found
@@ -55,5 +56,5 @@ cell_width first event label column =
     else label_width LABEL_ROOM (label_of label)
 
 -- what the title of its dot tells of a column, with all digits
-abbrev pub fact_text : LogEvent → Finding → Option (List ℕ) → (column : ℕ) → List ℕ
+abbrev pub fact_text : LogEvent → Option Finding → Option (List ℕ) → (column : ℕ) → List ℕ
 fact_text event found label column = heading_at no_digits column ++ (codes ": " ++ cell_text no_digits event found label column)

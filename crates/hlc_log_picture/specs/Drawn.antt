@@ -14,7 +14,7 @@ use Rattle.hlc_stamp.specs.declared.id.EventId.{EventId}
 use Rattle.hlc_log.specs.CausalOrder.{place_at}
 use Rattle.hlc_log.specs.OrderSkeleton.{rules_in}
 use Rattle.hlc_log.specs.declared.log_event.LogEvent.{LogEvent}
-use Rattle.hlc_log_report.specs.InOrder.{IsInOrder, LogInOrder, clocks_of, event_in_order, line_in, skeleton_of}
+use Rattle.hlc_log_report.specs.InOrder.{AreFilled, IsInOrder, LogInOrder, clocks_of, event_in_order, line_in, skeleton_of}
 use Rattle.hlc_log_text.specs.Labels.{label_at}
 use Rattle.hlc_log_text.specs.LogText.{name_of}
 use Rattle.hlc_log_text.specs.declared.log_text.LogText.{LogText}
@@ -56,7 +56,7 @@ pub record ArePictured (drawn : DrawnLog) (execution : StoredExecution) (digits 
 abbrev pub event_of_row : DrawnLog → ℕ → LogEvent
 event_of_row drawn k = event_in_order drawn.log.events drawn.log.order k
 
-abbrev pub finding_of_row : DrawnLog → ℕ → Finding
+abbrev pub finding_of_row : DrawnLog → ℕ → Option Finding
 finding_of_row drawn k = (event_finding_at drawn.findings k).finding
 
 abbrev pub label_of_row : DrawnLog → ℕ → Option (List ℕ)
@@ -91,9 +91,9 @@ abbrev pub drawn_log_chain : DrawnLog → (row : EventId) → ChainPicture
 drawn_log_chain drawn row = chain_picture_of (content_of drawn) row
 
 -- a log that was read is drawn, by what its clocks do at receives: its events in a causal order, which is that of their least stamps if
--- receives tick, with its names, its labels, and a finding on each
+-- receives tick, with its names, its labels, and a finding on each; those without a stamp have the one that they are given
 pub record IsDrawnOf (text : LogText) (receives : Receives) (full : ℕ) (drawn : DrawnLog) : Type 0 where
-  pub events : drawn.log.events ≡ text.log.events
+  pub events : AreFilled text.log.events drawn.log.events
   pub nodes : drawn.nodes ≡ text.nodes
   pub labels : drawn.labels ≡ text.labels
   pub receives_are : drawn.log.receives ≡ receives

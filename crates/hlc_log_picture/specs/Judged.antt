@@ -1,22 +1,20 @@
 -- What is found of the stamps of a log, and where its causes are.
-use Rattle.std.specs.Prelude.{◌≡◌, ◌↔◌, ◌⊎◌, ℕ, ◌<◌, IsTrue, List, Some, false, length, slice_index_or}
-use Rattle.hlc_causes.specs.Causes.{IsCause, NamesFinding}
-use Rattle.hlc_causes.specs.declared.answers.Finding.TheVariants.{Judged}
-use Rattle.hlc_verdict.specs.declared.verdict.Verdict.TheVariants.{Least}
-use Rattle.hlc_log_report.specs.InOrder.{LogInOrder, clocks_of, seen_of, wrong_of}
+use Rattle.std.specs.Prelude.{◌≡◌, ◌↔◌, ◌⊎◌, ℕ, ◌<◌, IsTrue, List, None, Some, false, length, slice_index_or}
+use Rattle.hlc_log_report.specs.Found.{FindsAt, IsCauseAt}
+use Rattle.hlc_log_report.specs.InOrder.{LogInOrder, wrong_of}
 use Rattle.hlc_log_picture.specs.declared.event_finding.EventFinding.{EventFinding}
 
 -- what is found of the event at k
 abbrev pub event_finding_at : List EventFinding → ℕ → EventFinding
-event_finding_at findings k = slice_index_or findings k (record { finding = Judged Least; is_cause = false })
+event_finding_at findings k = slice_index_or findings k (record { finding = None; is_cause = false })
 
 -- at k the clock rule was broken, by the stamps that its event saw claimed, or its message carried another stamp than its send claims
 abbrev pub IsCauseIn : LogInOrder → (full k : ℕ) → Type 0
-IsCauseIn log full k = IsCause (clocks_of log) (seen_of log k) full k ⊎ ((d : ℕ) × (wrong_of log k ≡ Some d))
+IsCauseIn log full k = IsCauseAt log full k ⊎ ((d : ℕ) × (wrong_of log k ≡ Some d))
 
 -- a finding on the event at k: what is found of its stamp, by those that it saw claimed, and whether it is a cause
 pub record IsEventFinding (log : LogInOrder) (full k : ℕ) (event_finding : EventFinding) : Type 0 where
-  pub finding : NamesFinding (clocks_of log) (seen_of log k) log.least full k event_finding.finding
+  pub finding : FindsAt log full k event_finding.finding
   pub cause : IsTrue event_finding.is_cause ↔ IsCauseIn log full k
 
 -- a finding on each of the first n events

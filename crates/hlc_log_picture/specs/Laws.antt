@@ -1,5 +1,5 @@
 -- The laws of the pictures of logs.
-use Rattle.std.specs.Prelude.{◌≡◌, ◌↔◌, ◌⊎◌, ℕ, ◌<◌, ◌≤◌, Contains, IsTrue, List, length, map}
+use Rattle.std.specs.Prelude.{◌≡◌, ◌↔◌, ◌⊎◌, ℕ, ◌<◌, ◌≤◌, Contains, IsTrue, List, Option, length, map, true}
 use Rattle.hlc_causality.specs.ClockEvents.{ticking}
 use Rattle.hlc_causes.specs.Causes.{RollsOverAhead}
 use Rattle.hlc_causes.specs.declared.answers.Finding.{Finding}
@@ -8,7 +8,7 @@ use Rattle.hlc_diagram.specs.Content.{SendsComeFirst}
 use Rattle.hlc_svg.specs.declared.look.Form.{Form}
 use Rattle.hlc_svg.specs.declared.look.Form.TheVariants.{Hexagon}
 use Rattle.hlc_causes.specs.Words.{finding_word}
-use Rattle.hlc_log_report.specs.InOrder.{IsInOrder, LogInOrder, clocks_of, seen_of, skeleton_of}
+use Rattle.hlc_log_report.specs.InOrder.{IsInOrder, LogInOrder, clocks_of, seen_of, skeleton_of, stamp_told}
 use Rattle.hlc_verdict.specs.declared.claim.Claim.{Claim}
 use Rattle.hlc_verdict.specs.declared.verdict.Verdict.{Verdict}
 use Rattle.hlc_verdict.specs.Trace.{claimed_stamps, trace_skeleton}
@@ -33,11 +33,11 @@ abbrev pub TellsVerdict : LogInOrder → (full k : ℕ) → Verdict → Form →
 TellsVerdict log full k verdict form =
     (form ≡ form_of (Judged verdict)) ⊎ ((form ≡ Hexagon) × RollsOverAhead (clocks_of log) (seen_of log k) log.least full k)
 
--- the forms of dots are the verdicts, where each event ticks from its reading on
+-- the forms of dots are the verdicts, where each event ticks from its reading on and the stamp is told
 abbrev pub FormsAreVerdicts : Type 0
 FormsAreVerdicts = (log : LogInOrder) (full : ℕ) (findings : List EventFinding) (k : ℕ) (claims : List Claim) (verdicts : List Verdict) →
     clocks_of log ≡ ticking (skeleton_of log) → IsInOrder log → AreEventFindings log full findings → AreClaimsSeen log k claims →
-    AreVerdicts claims verdicts → k < length log.events → TellsVerdict log full k (verdict_at verdicts k) (look_of (event_finding_at findings k)).form
+    AreVerdicts claims verdicts → k < length log.events → stamp_told log k ≡ true → TellsVerdict log full k (verdict_at verdicts k) (look_of (event_finding_at findings k)).form
 
 -- findings of which dots have the same form have the same word
 abbrev pub FormsTellWords : Type 0
@@ -49,7 +49,7 @@ LegendTellsForms = (found : Finding) → Contains (map told_of kinds) (told_of f
 
 -- the word of each verdict fits its column
 abbrev pub VerdictsFit : Type 0
-VerdictsFit = (found : Finding) → length (verdict_text found) ≤ VERDICT_WIDTH
+VerdictsFit = (found : Option Finding) → length (verdict_text found) ≤ VERDICT_WIDTH
 
 -- the rings are the causes
 abbrev pub RingsAreCauses : Type 0

@@ -40,5 +40,5 @@ kinds =
 unfoldable pub legend_text : List ℕ
 legend_text =
     codes "A row has the claimed stamp of its event, what the clock read, how far l is ahead of that, the verdict where it isn't least, and the label. "
-    ++ (codes "The first digits that all stamps and readings share stand in the headings. "
+    ++ (codes "An unstamped event has the stamp that the rule gives. The first digits that all stamps and readings share stand in the headings. "
     ++ (join_by told_of (codes "; ") kinds ++ codes ". A ring: the clock rule was broken there, or the message carried another stamp than its send claims."))

@@ -15,7 +15,7 @@ use std::alloc::AllocError;
 // What the rows have, and what the forms of dots say.
 pub(crate) const LEGEND: &str =
     "A row has the claimed stamp of its event, what the clock read, how far l is ahead of that, the verdict where it isn't \
-least, and the label. The first digits that all stamps and readings share stand in the headings. A pill is a least stamp; pointed below: \
+least, and the label. An unstamped event has the stamp that the rule gives. The first digits that all stamps and readings share stand in the headings. A pill is a least stamp; pointed below: \
 behind its clock; a box: not above an event before it; leaning: low; pointed above: ahead; a hexagon: carried. A ring: the clock rule \
 was broken there, or the message carried another stamp than its send claims.";
 
@@ -72,17 +72,18 @@ fn put_lead(text: &mut String, event: LogEvent) -> Result<(), AllocError>
     }
 }
 
-// The word of a verdict, unless it is least.
-fn put_verdict(text: &mut String, found: Finding) -> Result<(), AllocError>
+// The word of a verdict, unless it is least; or that the log tells no stamp.
+fn put_verdict(text: &mut String, found: Option<Finding>) -> Result<(), AllocError>
     ensures { OnOk result (string_bytes text.new ≡ string_bytes text.old ++ verdict_text found) }
 {
     text.push_str(match found {
-        Finding::Judged(Verdict::Least) => "",
-        Finding::Judged(Verdict::Behind) => "behind",
-        Finding::Judged(Verdict::NotAbove(_)) => "not-above",
-        Finding::Judged(Verdict::Low(_)) => "low",
-        Finding::Judged(Verdict::Ahead(_)) => "ahead",
-        Finding::RolledOver => "carried",
+        Some(Finding::Judged(Verdict::Least)) => "",
+        Some(Finding::Judged(Verdict::Behind)) => "behind",
+        Some(Finding::Judged(Verdict::NotAbove(_))) => "not-above",
+        Some(Finding::Judged(Verdict::Low(_))) => "low",
+        Some(Finding::Judged(Verdict::Ahead(_))) => "ahead",
+        Some(Finding::RolledOver) => "carried",
+        None => "unstamped",
     })
 }
 
@@ -114,7 +115,7 @@ pub(crate) fn put_cell(
     text: &mut String,
     first: FirstDigits,
     event: LogEvent,
-    found: Finding,
+    found: Option<Finding>,
     label: Option<&[u8]>,
     column: u8,
 ) -> Result<(), AllocError>
@@ -134,7 +135,7 @@ pub(crate) fn put_cell(
 pub(crate) fn put_fact(
     text: &mut String,
     event: LogEvent,
-    found: Finding,
+    found: Option<Finding>,
     label: Option<&[u8]>,
     column: u8,
 ) -> Result<(), AllocError>

@@ -10,8 +10,8 @@ use std::alloc::{AllocError, Global};
 /// What the picture tells of a claimed stamp.
 #[derive(Clone, Copy, PartialEq, Eq)]
 pub struct EventFinding {
-    /// What is found of it, by the stamps that its event saw claimed.
-    pub finding: Finding,
+    /// What is found of it, by the stamps that its event saw claimed; nothing if the log tells no stamp.
+    pub finding: Option<Finding>,
     /// Whether the clock rule was broken at its event, or its message carried another stamp than its send claims.
     pub is_cause: bool,
 }

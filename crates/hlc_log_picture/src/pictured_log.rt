@@ -91,8 +91,8 @@ impl<'a> PicturedLog<'a> {
         self.labels.get(self.log.place(event))
     }
 
-    // What is found of the stamp that is claimed for an event.
-    fn finding(&self, event: EventId) -> Finding
+    // What is found of the stamp that is claimed for an event, if one is.
+    fn finding(&self, event: EventId) -> Option<Finding>
         requires { event.0 < length self.now.log.events }
         ensures { result ≡ finding_of_row self.now event.0 }
     {

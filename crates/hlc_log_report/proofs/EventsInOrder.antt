@@ -1,8 +1,10 @@
 -- The events of a log in order, and the stamps that are claimed for them.
-use Rattle.std.proofs.Common.{◌≡◌, ◌∙◌, ℕ, ◌<◌, List, length, Option, Some, None, arith, ap, refl, sym}
+use Rattle.std.proofs.Common.{◌≡◌, ◌∙◌, ℕ, ◌<◌, List, length, Option, Some, None, arith, ap, refl, subst, sym}
 use Rattle.std.proofs.lemmas.List.{length-map, length-set}
 use Rattle.hlc_stamp.specs.declared.id.EventId.{EventId}
 use Rattle.hlc_causality.specs.Causality.{Skeleton}
+use Rattle.hlc_causality.specs.ClockEvents.{ClockEvents}
+use Rattle.hlc_causality.specs.Feasible.{IsLeastFeasible}
 use Rattle.hlc_causality.proofs.ReceiveEvents.{clock_events_size}
 use Rattle.hlc_execution.specs.Execution.{StoredExecution, clock_of}
 use Rattle.hlc_log.specs.CausalOrder.{IsCausalOrder}
@@ -39,6 +41,18 @@ length-skeleton_of log ordered = length-causal log ordered.causal
 -- as a clock rule reads them there are as many
 pub length-clocks_of : (log : LogInOrder) → length (clocks_of log) ≡ length (skeleton_of log)
 length-clocks_of log = clock_events_size (rules_in log.receives log.events log.order) (skeleton_of log)
+
+-- parts that agree hold a log in order
+pub parts_in_order : (log : StoredLog) (order positions : List EventId) (execution : StoredExecution) → AreParts log order positions execution
+    → IsInOrder (log_in_order log order execution)
+parts_in_order log order positions execution parts = record {
+  few = parts.few;
+  in_range = parts.in_range;
+  messages = parts.messages;
+  causal = parts.causal;
+  least = subst (λ (t : ClockEvents). IsLeastFeasible t execution.stamps) parts.execution_is.clocks_are parts.execution_is.least;
+  given = parts.given;
+}
 
 -- the execution in the parts of a log in order has its events
 module _ (log : StoredLog) (order positions : List EventId) (execution : StoredExecution) (parts : AreParts log order positions execution)

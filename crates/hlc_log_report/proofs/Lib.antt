@@ -1,6 +1,9 @@
 pub mod CleanLogs
 pub mod Counting
 pub mod EventsInOrder
+pub mod Filled
+pub mod Found
+pub mod GivenStamps
 mod MessageCounting
 mod MoreMessages
 pub mod Ordering

@@ -1,67 +1,90 @@
 -- Logs with the same events in different orders.
 use Rattle.std.proofs.Common.{◌≡◌, ◌∙◌, Bool, true, false, ℕ, ◌<◌, ◌&&◌, ◌==◌, inl, inr, List, length, Option, Some, None, arith, refl, subst, sym, ap}
-use Rattle.std.specs.Prelude.{count_by, nat_le, slice_index_or}
+use Rattle.std.specs.Prelude.{All, count_by, nat_le, option_map, slice_index_or}
+use Rattle.std.proofs.lemmas.List.{ext_get_or}
+use Rattle.std.proofs.lemmas.List.Elements.{All-get_or}
 use Rattle.std.proofs.lemmas.Bool.{cases_order, eq-eqb, eqb-true}
 use Rattle.std.proofs.lemmas.List.Sums.{length-filter}
 use Rattle.hlc_stamp.specs.declared.id.EventId.{EventId}
 use Rattle.hlc_stamp.specs.Order.{Pair}
 use Rattle.hlc_causality.specs.Causality.{IsSendOf, Skeleton, SkeletonEvent, skeleton_at}
-use Rattle.hlc_causality.specs.ClockEvents.{ClockEvents}
 use Rattle.hlc_causality.specs.Neighbours.{is_of_send}
 use Rattle.hlc_causality.specs.Places.{places_below}
-use Rattle.hlc_verdict.specs.declared.verdict.Verdict.{Verdict}
 use Rattle.hlc_verdict.specs.declared.verdict.Verdict.TheVariants as verdict
-use Rattle.hlc_causes.specs.Causes.{NamesFinding}
 use Rattle.hlc_causes.specs.declared.answers.Finding.{Finding}
 use Rattle.hlc_causes.specs.declared.answers.Finding.TheVariants.{Judged, RolledOver}
 use Rattle.hlc_log.specs.declared.log_event.LogEvent.{LogEvent}
 use Rattle.hlc_log.specs.CausalOrder.{IsEarlierOf, place_at}
-use Rattle.hlc_log.specs.Events.{event_at, own_rule}
-use Rattle.hlc_log.specs.OrderSkeleton.{send_place}
+use Rattle.hlc_log.specs.Events.{IsInRange, event_at, no_event, own_rule, with_stamp}
+use Rattle.hlc_log.specs.OrderSkeleton.{index_in, send_place}
 use Rattle.hlc_log.specs.Reordering.{IsReordering, KeepsLog}
-use Rattle.hlc_log.proofs.OrderSkeletons.{skeleton_in_at}
+use Rattle.hlc_log.proofs.OrderSkeletons.{place_of_index, skeleton_in_at}
 use Rattle.hlc_log.proofs.Reorderings.{send_returned}
 use Rattle.hlc_log_report.specs.Counts.{AreFindings, counts_of, is_ahead, is_behind, is_least, is_low, is_not_above, is_rolled_over}
-use Rattle.hlc_log_report.specs.InOrder.{IsInOrder, LogInOrder, clocks_of, event_in_order, seen_of, skeleton_of}
-use Rattle.hlc_log_report.specs.Laws.{CountsAgree, MessagesAgree, RearrangedLogsTellTheSame}
+use Rattle.hlc_log_report.specs.InOrder.{AreFilled, IsInOrder, LogInOrder, event_in_order, filled_event, skeleton_of}
+use Rattle.hlc_log_report.specs.Laws.{CountsAgree, GivenStampsAgree, MessagesAgree, RearrangedLogsTellTheSame}
 use Rattle.hlc_log_report.specs.Messages.{is_received, is_sent, kind_in, message_counts, receives_in}
 use Rattle.hlc_log_report.specs.Moved.{moved_finding}
 use Rattle.hlc_log_report.specs.Reordered.{IsRearranged, TellTheSame, moved_position}
-use Rattle.hlc_log_report.proofs.EventsInOrder.{length-clocks_of, length-skeleton_of}
-use Rattle.hlc_log_report.proofs.Ordering.{delivers_earlier, order_len}
-use Rattle.hlc_log_report.proofs.ReorderedTraces.{moved_there, skeletons_moved}
+use Rattle.hlc_log_report.proofs.EventsInOrder.{length-skeleton_of}
+use Rattle.hlc_log_report.proofs.Filled.{filled_by, filled_if_told, filled_itself, rule_filled}
+use Rattle.hlc_log_report.proofs.Found.{one_found}
+use Rattle.hlc_log_report.proofs.GivenStamps.{filled_twice}
+use Rattle.hlc_log_report.proofs.Ordering.{claimed_at, delivers_earlier, order_len}
+use Rattle.hlc_log_report.proofs.ReorderedTraces.{moved_there, same_claim, skeletons_moved}
 use Rattle.hlc_log_report.proofs.SeenTraces.{findings_agree}
 use Rattle.hlc_log_report.proofs.SamePlaces.{count_list_moved, count_moved}
 
--- a map that keeps each event as it is
-keeps_log : (events others : List LogEvent) (to : ℕ → ℕ) → ((e : ℕ) → e < length events → to e < length others)
-    → ((e : ℕ) → e < length events → event_at others (to e) ≡ event_at events e) → ((d e : ℕ) → IsEarlierOf events d e → to d < to e)
-    → KeepsLog events others to
-keeps_log events others to there same at_node = record {
-  exists = there;
-  reading = λ e lt. ap (λ (x : LogEvent). x.reading) (same e lt);
-  has_reading = λ e lt. ap (λ (x : LogEvent). x.has_reading) (same e lt);
-  rule = λ receives e lt. ap (λ (x : LogEvent). own_rule receives x) (same e lt);
-  carried = λ e lt. ap (λ (x : LogEvent). x.carried) (same e lt);
-  at_node = λ d e h.
-      let exists : e < length events = h.exists in
-      let earlier : d < e = h.earlier in
-      record {
-        earlier = at_node d e h;
-        exists = there e exists;
-        same_node =
-            ap (λ (x : LogEvent). x.node.0) (same d (omega arith)) ∙ h.same_node ∙ sym (ap (λ (x : LogEvent). x.node.0) (same e exists));
-      };
-  sends = λ d e h. (
-    h.0,
-    record { exists = there d h.1.exists; kind = ap (λ (x : LogEvent). x.kind) (same d h.1.exists) ∙ h.1.kind },
-    record { exists = there e h.2.exists; kind = ap (λ (x : LogEvent). x.kind) (same e h.2.exists) ∙ h.2.kind },
-  );
-}
+-- a map that keeps each event as it is, but for a stamp that isn't told
+module _ (events others : List LogEvent) (to : ℕ → ℕ) (there : (e : ℕ) → e < length events → to e < length others)
+    (same : (e : ℕ) → e < length events → event_at others (to e) ≡ filled_event (event_at events e) (event_at others (to e)).stamp) where
+  kept : {X : Type 0} (f : LogEvent → X) → ((event : LogEvent) (stamp : Pair) → f (with_stamp stamp event) ≡ f event) → (e : ℕ) → e < length events
+      → f (event_at others (to e)) ≡ f (event_at events e)
+  kept f blind e lt =
+      let event = event_at events e in
+      let stamp = (event_at others (to e)).stamp in
+      ap f (same e lt) ∙ filled_by f event stamp event.has_stamp (blind event stamp)
+
+  keeps_log : All IsInRange events → ((d e : ℕ) → IsEarlierOf events d e → to d < to e) → KeepsLog events others to
+  keeps_log ranges at_node = record {
+    exists = there;
+    reading = kept (λ x. x.reading) (λ event stamp. refl);
+    has_reading = kept (λ x. x.has_reading) (λ event stamp. refl);
+    has_stamp = kept (λ x. x.has_stamp) (λ event stamp. refl);
+    carried = kept (λ x. x.carried) (λ event stamp. refl);
+    rule = λ receives e lt.
+        ap (own_rule receives) (same e lt)
+        ∙ rule_filled receives (event_at events e) (event_at others (to e)).stamp (All-get_or IsInRange events e no_event lt ranges).told;
+    at_node = λ d e h.
+        let exists : e < length events = h.exists in
+        let earlier : d < e = h.earlier in
+        record {
+          earlier = at_node d e h;
+          exists = there e exists;
+          same_node =
+              kept (λ x. x.node.0) (λ event stamp. refl) d (omega arith) ∙ h.same_node ∙ sym (kept (λ x. x.node.0) (λ event stamp. refl) e exists);
+        };
+    sends = λ d e h. (
+      h.0,
+      record { exists = there d h.1.exists; kind = kept (λ x. x.kind) (λ event stamp. refl) d h.1.exists ∙ h.1.kind },
+      record { exists = there e h.2.exists; kind = kept (λ x. x.kind) (λ event stamp. refl) e h.2.exists ∙ h.2.kind },
+    );
+  }
+
+-- each of two events is the other one but for a stamp that isn't told
+filled_back : (event other : LogEvent) → other ≡ filled_event event other.stamp → event ≡ filled_event other event.stamp
+filled_back event other is =
+    sym (ap (λ (x : LogEvent). filled_event x event.stamp) is ∙ filled_twice event other.stamp event.stamp ∙ filled_itself event)
 
 module _ (log other : LogInOrder) (to back : ℕ → ℕ) (h : IsRearranged log other to back) where
-  same_back : (f : ℕ) → f < length other.events → event_at log.events (back f) ≡ event_at other.events f
-  same_back f lt = sym (h.same (back f) (h.here f lt)) ∙ ap (event_at other.events) (h.back_there f lt)
+  same_back : (f : ℕ) → f < length other.events → event_at log.events (back f) ≡ filled_event (event_at other.events f) (event_at log.events (back f)).stamp
+  same_back f lt =
+      filled_back (event_at log.events (back f)) (event_at other.events f)
+      (subst (λ (e : ℕ). event_at other.events e ≡ filled_event (event_at log.events (back f)) (event_at other.events e).stamp) (h.back_there f lt)
+      (h.same (back f) (h.here f lt)))
+
+  node_back : (f : ℕ) → f < length other.events → (event_at log.events (back f)).node.0 ≡ (event_at other.events f).node.0
+  node_back = kept other.events log.events back h.here same_back (λ x. x.node.0) (λ event stamp. refl)
 
   earlier_back : (d e : ℕ) → IsEarlierOf other.events d e → back d < back e
   earlier_back d e is =
@@ -79,7 +102,7 @@ module _ (log other : LogInOrder) (to back : ℕ → ℕ) (h : IsRearranged log 
                 earlier = gt;
                 exists = h.here d d_lt;
                 same_node =
-                    ap (λ (x : LogEvent). x.node.0) (same_back e e_lt) ∙ sym is.same_node ∙ sym (ap (λ (x : LogEvent). x.node.0) (same_back d d_lt));
+                    node_back e e_lt ∙ sym is.same_node ∙ sym (node_back d d_lt);
               } in
               let later = h.at_node (back e) (back d) turned in
               absurd (omega arith)
@@ -92,12 +115,13 @@ module _ (log other : LogInOrder) (to back : ℕ → ℕ) (h : IsRearranged log 
     ordered = h.ordered;
     other_ordered = h.other_ordered;
     events = record {
-      there = keeps_log log.events other.events to h.there h.same h.at_node;
-      here = keeps_log other.events log.events back h.here same_back earlier_back;
+      there = keeps_log log.events other.events to h.there h.same h.ordered.in_range h.at_node;
+      here = keeps_log other.events log.events back h.here same_back h.other_ordered.in_range earlier_back;
       back_here = h.back_here;
       back_there = h.back_there;
     };
-    claims = λ e lt. ap (λ (x : LogEvent). x.stamp) (h.same e lt);
+    claims = λ e lt told.
+        ap (λ (x : LogEvent). x.stamp) (h.same e lt ∙ filled_if_told (event_at log.events e) (event_at other.events (to e)).stamp told);
   }
 
   abbrev pub moved : ℕ → ℕ
@@ -124,11 +148,28 @@ module _ (log other : LogInOrder) (to back : ℕ → ℕ) (h : IsRearranged log 
   pub moved_exists : (k : ℕ) → k < seen_size → moved k < seen_size
   moved_exists k lt = let there = reordered.there.exists k lt in let size = same_size in omega arith
 
+  -- so each event has its stamp, too: one that isn't told was given as it is here
   pub event_moved : (k : ℕ) → k < seen_size → event_in_order other.events other.order (moved k) ≡ event_in_order log.events log.order k
   event_moved k lt =
-      let there = moved_there log other to back tell_the_same k (in_the_order k lt) in
+      let within = in_the_order k lt in
+      let there = moved_there log other to back tell_the_same k within in
+      let event = event_in_order log.events log.order k in
+      let stamps : (event_at other.events (to (place_at log.order k))).stamp ≡ event.stamp =
+      ap (λ (e : ℕ). (event_at other.events e).stamp) (sym there.1) ∙ sym (claimed_at other.events other.order (moved k) there.0)
+      ∙ sym (same_claim log other to back tell_the_same k within) ∙ claimed_at log.events log.order k within in
       ap (event_at other.events) there.1
-      ∙ h.same (place_at log.order k) (h.ordered.causal.causal k (in_the_order k lt)).exists
+      ∙ h.same (place_at log.order k) (h.ordered.causal.causal k within).exists
+      ∙ ap (filled_event event) stamps ∙ filled_itself event
+
+  pub event_same : (e : ℕ) → e < length log.events → event_at other.events (to e) ≡ event_at log.events e
+  event_same e lt =
+      let at = place_of_index log.events log.order h.ordered.causal e lt in
+      let k = index_in log.order e in
+      let size = length-skeleton_of log h.ordered in
+      let places = order_len log.events log.order h.ordered.causal in
+      let within = at.0 in
+      let there = moved_there log other to back tell_the_same k within in
+      ap (event_at other.events) (ap to (sym at.1) ∙ sym there.1) ∙ event_moved k (omega arith) ∙ ap (event_at log.events) at.1
 
 pub rearranged_logs_tell_the_same : RearrangedLogsTellTheSame
 rearranged_logs_tell_the_same log other to back h = tell_the_same log other to back h
@@ -146,56 +187,80 @@ one_log log other receives ordered other_ordered same =
       here = λ f lt. omega arith;
       back_here = λ e lt. refl;
       back_there = λ f lt. refl;
-      same = λ e lt. ap (λ (events : List LogEvent). event_at events e) same;
+      same = λ e lt.
+          let event = event_at log.events e in
+          let here : event_at other.events e ≡ event = ap (λ (events : List LogEvent). event_at events e) same in
+          here ∙ sym (ap (λ (x : LogEvent). filled_event event x.stamp) here ∙ filled_itself event);
       at_node = λ d e earlier. earlier.earlier;
     }
 
--- findings
-pub one_finding : (t : ClockEvents) (claimed least : List Pair) (full f : ℕ) (a b : Finding) → NamesFinding t claimed least full f a
-    → NamesFinding t claimed least full f b → a ≡ b
-one_finding t claimed least full f RolledOver RolledOver p q = refl
-one_finding t claimed least full f RolledOver (Judged w) p q = absurd (q.1 p)
-one_finding t claimed least full f (Judged v) RolledOver p q = absurd (p.1 q)
-one_finding t claimed least full f (Judged v) (Judged w) p q = ap (λ (x : Verdict). Judged x) (p.0 ∙ sym q.0)
+-- two fillings of the same events
+pub filled_logs : (events : List LogEvent) (log other : LogInOrder) → other.receives ≡ log.receives → IsInOrder log → IsInOrder other
+    → AreFilled events log.events → AreFilled events other.events → IsRearranged log other (λ e. e) (λ e. e)
+filled_logs events log other receives ordered other_ordered are others_are =
+    let size = are.one_each in
+    let other_size = others_are.one_each in
+    record {
+      receives = receives;
+      ordered = ordered;
+      other_ordered = other_ordered;
+      size = omega arith;
+      there = λ e lt. omega arith;
+      here = λ f lt. omega arith;
+      back_here = λ e lt. refl;
+      back_there = λ f lt. refl;
+      same = λ e lt.
+          let within : e < length events = omega arith in
+          let stamp = (event_at other.events e).stamp in
+          others_are.each e within
+          ∙ sym (ap (λ (x : LogEvent). filled_event x stamp) (are.each e within) ∙ filled_twice (event_at events e) (event_at log.events e).stamp stamp);
+      at_node = λ d e earlier. earlier.earlier;
+    }
+
+pub given_stamps_agree : GivenStampsAgree
+given_stamps_agree events log other receives ordered other_ordered are others_are =
+    let h = filled_logs events log other receives ordered other_ordered are others_are in
+    let size = h.size in
+    ext_get_or no_event other.events log.events size (λ e lt. event_same log other (λ e. e) (λ e. e) h e (omega arith))
 
 -- a test that doesn't look at the event that is named
-blind : (p : Finding → Bool) → ((d e : EventId) → p (Judged (verdict.NotAbove d)) ≡ p (Judged (verdict.NotAbove e))) → (to : ℕ → ℕ) (f : Finding)
-    → p (moved_finding to f) ≡ p f
-blind p same to RolledOver = refl
-blind p same to (Judged verdict.Behind) = refl
-blind p same to (Judged (verdict.NotAbove d)) = same _ d
-blind p same to (Judged (verdict.Low x)) = refl
-blind p same to (Judged verdict.Least) = refl
-blind p same to (Judged (verdict.Ahead x)) = refl
+blind : (p : Option Finding → Bool) → ((d e : EventId) → p (Some (Judged (verdict.NotAbove d))) ≡ p (Some (Judged (verdict.NotAbove e)))) → (to : ℕ → ℕ)
+    (f : Option Finding) → p (option_map (moved_finding to) f) ≡ p f
+blind p same to None = refl
+blind p same to (Some RolledOver) = refl
+blind p same to (Some (Judged verdict.Behind)) = refl
+blind p same to (Some (Judged (verdict.NotAbove d))) = same _ d
+blind p same to (Some (Judged (verdict.Low x))) = refl
+blind p same to (Some (Judged verdict.Least)) = refl
+blind p same to (Some (Judged (verdict.Ahead x))) = refl
 
-module _ (log other : LogInOrder) (to back : ℕ → ℕ) (h : IsRearranged log other to back) (full : ℕ) (findings others : List Finding)
-    (are : AreFindings (clocks_of log) (seen_of log) log.least full (length (clocks_of log)) findings)
-    (others_are : AreFindings (clocks_of other) (seen_of other) other.least full (length (clocks_of other)) others) where
-  clocks_size : length (clocks_of log) ≡ length (skeleton_of log)
-  clocks_size = length-clocks_of log
+module _ (log other : LogInOrder) (to back : ℕ → ℕ) (h : IsRearranged log other to back) (full : ℕ) (findings others : List (Option Finding))
+    (are : AreFindings log full (length log.order) findings) (others_are : AreFindings other full (length other.order) others) where
+  places_size : length log.order ≡ length (skeleton_of log)
+  places_size = order_len log.events log.order h.ordered.causal ∙ sym (length-skeleton_of log h.ordered)
 
-  other_clocks_size : length (clocks_of other) ≡ length (skeleton_of other)
-  other_clocks_size = length-clocks_of other
+  other_places_size : length other.order ≡ length (skeleton_of other)
+  other_places_size = order_len other.events other.order h.other_ordered.causal ∙ sym (length-skeleton_of other h.other_ordered)
 
   finding_moved : (k : ℕ) → k < length (skeleton_of log)
-      → slice_index_or others (moved log other to back h k) RolledOver ≡ moved_finding (moved log other to back h) (slice_index_or findings k RolledOver)
+      → slice_index_or others (moved log other to back h k) None ≡ option_map (moved_finding (moved log other to back h)) (slice_index_or findings k None)
   finding_moved k lt =
       let size = same_size log other to back h in
       let there = moved_exists log other to back h k lt in
       let to_there = moved log other to back h in
-      one_finding (clocks_of other) (seen_of other (to_there k)) other.least full (to_there k) (slice_index_or others (to_there k) RolledOver)
-      (moved_finding to_there (slice_index_or findings k RolledOver)) (others_are.each (to_there k) (omega (arith, size, there, other_clocks_size)))
-      (findings_agree log other to back (tell_the_same log other to back h) full k (slice_index_or findings k RolledOver)
-      (in_the_order log other to back h k lt) (are.each k (omega (arith, lt, clocks_size))))
+      one_found other full (to_there k) (slice_index_or others (to_there k) None) (option_map (moved_finding to_there) (slice_index_or findings k None))
+      (others_are.each (to_there k) (omega (arith, size, there, other_places_size)))
+      (findings_agree log other to back (tell_the_same log other to back h) full k (slice_index_or findings k None)
+      (in_the_order log other to back h k lt) (are.each k (omega (arith, lt, places_size))))
 
-  count_kept : (p : Finding → Bool) → ((d e : EventId) → p (Judged (verdict.NotAbove d)) ≡ p (Judged (verdict.NotAbove e)))
+  count_kept : (p : Option Finding → Bool) → ((d e : EventId) → p (Some (Judged (verdict.NotAbove d))) ≡ p (Some (Judged (verdict.NotAbove e))))
       → count_by p others ≡ count_by p findings
   count_kept p same =
       let to_there = moved log other to back h in
-      count_list_moved p RolledOver (length (skeleton_of log)) to_there (moved_back log other to back h) (moved_exists log other to back h)
-      (reordered log other to back h).back_here findings others (are.one_each ∙ clocks_size)
-      (others_are.one_each ∙ other_clocks_size ∙ same_size log other to back h)
-      (λ k lt. ap p (finding_moved k lt) ∙ blind p same to_there (slice_index_or findings k RolledOver))
+      count_list_moved p None (length (skeleton_of log)) to_there (moved_back log other to back h) (moved_exists log other to back h)
+      (reordered log other to back h).back_here findings others (are.one_each ∙ places_size)
+      (others_are.one_each ∙ other_places_size ∙ same_size log other to back h)
+      (λ k lt. ap p (finding_moved k lt) ∙ blind p same to_there (slice_index_or findings k None))
 
   same_counts : counts_of others ≡ counts_of findings
   same_counts =

@@ -1,14 +1,16 @@
 -- Reordered traces have the same answers.
-use Rattle.std.proofs.Common.{◌≡◌, ◌∙◌, Bool, true, false, cond, ℕ, ◌<◌, inl, inr, List, length, Option, Some, None, arith, refl, subst, sym, ap}
-use Rattle.std.specs.Prelude.{◌↔◌, max, option_map}
+use Rattle.std.proofs.Common.{◌≡◌, ◌≢◌, ◌∙◌, Bool, true, false, cond, ℕ, zero, suc, ◌<◌, inl, inr, List, length, Option, Some, None, arith, refl, subst, sym, ap}
+use Rattle.std.specs.Prelude.{◌↔◌, max, option_map, slice_set}
+use Rattle.std.proofs.lemmas.Bool.{cases_Bool, cases_eq}
+use Rattle.std.proofs.lemmas.List.{get_or-set_other, get_or-set_same}
 use Rattle.std.specs.Option.{option_or}
 use Rattle.std.specs.Ordering.{is_lt}
 use Rattle.std.specs.declared.cmp.Ordering.{Ordering}
 use Rattle.std.specs.declared.cmp.Ordering.TheVariants.{Equal, Greater, Less}
 use Rattle.hlc_stamp.specs.declared.id.EventId.{EventId}
-use Rattle.hlc_stamp.specs.Order.{IsAtMost, IsBelow, Pair, stamp_cmp}
+use Rattle.hlc_stamp.specs.Order.{IsAtMost, IsBelow, Pair, stamp_cmp, zero_pair}
 use Rattle.hlc_causality.specs.Assignment.{pair_at}
-use Rattle.hlc_causality.specs.Causality.{IsEarlierAtNode, IsPrevious, IsSendOf, Skeleton}
+use Rattle.hlc_causality.specs.Causality.{IsDirectPredecessor, IsEarlierAtNode, IsPrevious, IsSendOf, Skeleton}
 use Rattle.hlc_causality.specs.ClockEvents.{ClockEvents, clock_event_at, clock_skeleton}
 use Rattle.hlc_causality.specs.Feasible.{Follows, IsFeasibleAt, IsLeastFeasible, IsLeastFeasibleAt}
 use Rattle.hlc_causality.specs.Neighbours.{place_of}
@@ -22,6 +24,8 @@ use Rattle.hlc_verdict.specs.declared.verdict.Verdict.{Verdict}
 use Rattle.hlc_verdict.specs.declared.verdict.Verdict.TheVariants as verdict
 use Rattle.hlc_verdict.specs.Verdict.{not_above_or, verdict_by_least}
 use Rattle.hlc_causes.specs.Causes.{IsAheadOf, IsBehind, RollsOver, RollsOverAhead, IsLeastWritten, NamesCauses, NamesFinding, top_at}
+use Rattle.hlc_causes.specs.Given.{given_at, rule_pair_at, stamp_for}
+use Rattle.hlc_causes.specs.Seen.{seen as seen_pairs}
 use Rattle.hlc_causes.specs.Verdicts.{first_not_above, follows, if_not_above, verdict_on}
 use Rattle.hlc_causes.specs.declared.answers.Cause.TheVariants.{Ahead, Behind, NotAbovePrevious, NotAboveSend}
 use Rattle.hlc_causes.specs.declared.answers.Causes.{Causes}
@@ -29,21 +33,24 @@ use Rattle.hlc_causes.specs.declared.answers.Finding.{Finding}
 use Rattle.hlc_causes.specs.declared.answers.Finding.TheVariants.{RolledOver, Judged}
 use Rattle.hlc_causes.proofs.CauseLaws.{names_each}
 use Rattle.hlc_causes.proofs.Disorder.{found_is, some_is_so}
+use Rattle.hlc_causes.proofs.Given.{rule_pair_is}
+use Rattle.hlc_causes.proofs.Written.{rule_is_unique}
 use Rattle.hlc_causes.proofs.Predecessors.{none_found, place_named, placed}
 use Rattle.hlc_log.specs.CausalOrder.{place_at}
 use Rattle.hlc_log.specs.Events.{event_at}
 use Rattle.hlc_log.specs.OrderSkeleton.{rules_in}
-use Rattle.hlc_log.specs.Reordering.{HaveEqualPairs, IsReordering, IsSameNode}
+use Rattle.hlc_log.specs.Reordering.{HaveEqualPairs, IsClockReordering, IsReordering, IsSameNode}
 use Rattle.hlc_log.proofs.Agreement.{own_kept, skeletons_reordered}
 use Rattle.hlc_log.proofs.ClockReorderings.{clock_reordering_keeps_least, clocks_turned, rules_are_reordered}
 use Rattle.hlc_log.proofs.OrderSkeletons.{length-skeleton_in, place_exists, place_of_index, sends_are_named}
 use Rattle.hlc_log.proofs.Reorderings.{direct_kept, direct_returned, earlier_returned, equal_turned, previous_kept, previous_returned, same_node_turned, send_returned, turned}
-use Rattle.hlc_log_report.specs.InOrder.{LogInOrder, claimed_of, clocks_of, skeleton_of}
+use Rattle.hlc_log_report.specs.InOrder.{LogInOrder, carried_of, claimed_of, clocks_of, seen_of, skeleton_of, stamp_told}
 use Rattle.hlc_log_report.specs.Laws.{KeepsTold, LogsAreReorderedTraces, ReorderingKeepsCauses, ReorderingKeepsFindings, ReorderingKeepsSkews, ReorderingKeepsVerdicts}
 use Rattle.hlc_log_report.specs.Moved.{moved_causes, moved_event, moved_finding, moved_skew, moved_verdict}
 use Rattle.hlc_log_report.specs.Reordered.{IsReorderedTrace, TellTheSame, moved_position}
 use Rattle.hlc_log_report.specs.Skew.{IsMessage, IsSkewBefore, NamesSkewBefore}
 use Rattle.hlc_log_report.specs.declared.skew.Skew.{Skew}
+use Rattle.hlc_log_report.proofs.EventsInOrder.{length-claimed_of, length-clocks_of}
 use Rattle.hlc_log_report.proofs.Ordering.{claimed_at}
 
 -- what is found in the one order is found in the other
@@ -103,6 +110,77 @@ module _ (s t : Skeleton) (to back : ℕ → ℕ) (h : IsReordering s t to back)
       let earlier = direct_earlier s d f (inr send) in
       omega arith
 
+-- what is feasible at an event depends on the pairs of its direct predecessors
+module _ (t u : ClockEvents) (claimed others : List Pair) (to back : ℕ → ℕ) (clocks : IsClockReordering t u to back) (f : ℕ) (exists : f < length t)
+    (same : (d : ℕ) → IsDirectPredecessor (clock_skeleton t) d f → pair_at claimed d ≡ pair_at others (to d)) where
+  placed_here : f < length (clock_skeleton t)
+  placed_here = omega (arith, exists, skeleton_size t)
+
+  feasible_there : (q : Pair) → IsFeasibleAt t claimed f q → IsFeasibleAt u others (to f) q
+  feasible_there q feasible = record {
+    not_below = subst (λ (p : Pair). IsAtMost p q) (sym (clocks.floor f exists)) feasible.not_below;
+    follows = λ d direct.
+        let r = clock_skeleton u in
+        let before = direct_returned (clock_skeleton t) r to back clocks.links f placed_here d direct in
+        let lt = direct_earlier r d (to f) direct in
+        let there = direct_exists r d (to f) direct in
+        let equal : pair_at claimed (back d) ≡ pair_at others d =
+        same (back d) before ∙ ap (λ (e : ℕ). pair_at others e) (clocks.links.back_there d (omega arith)) in
+        subst (λ b. Follows b (pair_at others d) q) (sym (clocks.ticks f exists))
+        (subst (λ (p : Pair). Follows (clock_event_at t f).ticks p q) equal (feasible.follows (back d) before));
+  }
+
+  feasible_here : (q : Pair) → IsFeasibleAt u others (to f) q → IsFeasibleAt t claimed f q
+  feasible_here q feasible = record {
+    not_below = subst (λ (p : Pair). IsAtMost p q) (clocks.floor f exists) feasible.not_below;
+    follows = λ d direct.
+        subst (λ (p : Pair). Follows (clock_event_at t f).ticks p q) (sym (same d direct))
+        (subst (λ b. Follows b (pair_at others (to d)) q) (clocks.ticks f exists)
+        (feasible.follows (to d) (direct_kept (clock_skeleton t) (clock_skeleton u) to back clocks.links d f direct)));
+  }
+
+  least_there : (p : Pair) → IsLeastFeasibleAt t claimed f p → IsLeastFeasibleAt u others (to f) p
+  least_there p rule = record {
+    feasible = feasible_there p rule.feasible;
+    least = λ q feasible. rule.least q (feasible_here q feasible);
+  }
+
+  -- so is the stamp that is given
+  pub given_moved : given_at u others (to f) ≡ given_at t claimed f
+  given_moved =
+      let there = clocks.links.there.exists f placed_here in
+      ap stamp_for (rule_is_unique u others (to f) (rule_pair_at u others (to f)) (rule_pair_at t claimed f)
+      (rule_pair_is u others (to f) (omega (arith, there, skeleton_size u))) (least_there (rule_pair_at t claimed f) (rule_pair_is t claimed f exists)))
+
+-- what an event saw claimed at another one, if that one claims the same
+module _ (t u : ClockEvents) (claimed others : List Pair) (to back : ℕ → ℕ) (links : IsReordering (clock_skeleton t) (clock_skeleton u) to back)
+    (size : length claimed ≡ length t) (other_size : length others ≡ length u) where
+  -- a place among the events
+  abbrev pub IsPlace : ℕ → Type 0
+  IsPlace d = d < length (clock_skeleton t)
+
+  differ_there : (d e : ℕ) → IsPlace d → IsPlace e → e ≢ d → to e ≢ to d
+  differ_there d e d_lt e_lt differ same = differ (sym (links.back_here e e_lt) ∙ ap back same ∙ links.back_here d d_lt)
+
+  pub same_seen : (o : Option ℕ) (carried : Option Pair) → ((d : ℕ) → o ≡ Some d → IsPlace d) → (e : ℕ) → IsPlace e
+      → pair_at claimed e ≡ pair_at others (to e) → pair_at (seen_pairs claimed o carried) e ≡ pair_at (seen_pairs others (option_map to o) carried) (to e)
+  same_seen None None exist e lt equal = equal
+  same_seen None (Some p) exist e lt equal = equal
+  same_seen (Some d) None exist e lt equal = equal
+  same_seen (Some d) (Some p) exist e lt equal =
+      let d_lt : IsPlace d = exist d refl in
+      let there = links.there.exists d d_lt in
+      let here : d < length claimed = omega (arith, d_lt, size, skeleton_size t) in
+      let moved : to d < length others = omega (arith, there, other_size, skeleton_size u) in
+      elim (cases_eq e d) [
+        | inl same ↦
+            ap (pair_at (slice_set claimed d p)) same ∙ get_or-set_same claimed d p zero_pair here
+            ∙ sym (get_or-set_same others (to d) p zero_pair moved) ∙ ap (λ (n : ℕ). pair_at (slice_set others (to d) p) (to n)) (sym same)
+        | inr differ ↦
+            get_or-set_other claimed d e p zero_pair differ ∙ equal
+            ∙ sym (get_or-set_other others (to d) (to e) p zero_pair (differ_there d e d_lt lt differ))
+      ]
+
 pub turned_trace : (t u : ClockEvents) (claimed others : List Pair) (to back : ℕ → ℕ) → IsReorderedTrace t u claimed others to back
     → IsReorderedTrace u t others claimed back to
 turned_trace t u claimed others to back h = record {
@@ -134,34 +212,18 @@ module _ (t u : ClockEvents) (claimed others : List Pair) (to back : ℕ → ℕ
   same_floor : (clock_event_at u (to f)).floor ≡ (clock_event_at t f).floor
   same_floor = h.events.floor f exists
 
+  same_before : (d : ℕ) → IsDirectPredecessor s d f → pair_at claimed d ≡ pair_at others (to d)
+  same_before d direct = let lt = direct_earlier s d f direct in h.claims d (omega (arith, lt, shown))
+
   -- what is feasible at an event
   feasible_kept : (q : Pair) → IsFeasibleAt t claimed f q → IsFeasibleAt u others (to f) q
-  feasible_kept q feasible = record {
-    not_below = subst (λ (p : Pair). IsAtMost p q) (sym same_floor) feasible.not_below;
-    follows = λ d direct.
-        let before = direct_returned s r to back links f shown d direct in
-        let lt = direct_earlier r d (to f) direct in
-        let there = direct_exists r d (to f) direct in
-        let other = turned_trace t u claimed others to back h in
-        let equal : pair_at others d ≡ pair_at claimed (back d) = other.claims d (omega arith) in
-        subst (λ b. Follows b (pair_at others d) q) (sym same_ticks)
-        (subst (λ (p : Pair). Follows (clock_event_at t f).ticks p q) (sym equal) (feasible.follows (back d) before));
-  }
+  feasible_kept = feasible_there t u claimed others to back h.events f exists same_before
 
   feasible_returned : (q : Pair) → IsFeasibleAt u others (to f) q → IsFeasibleAt t claimed f q
-  feasible_returned q feasible = record {
-    not_below = subst (λ (p : Pair). IsAtMost p q) same_floor feasible.not_below;
-    follows = λ d direct.
-        let lt = direct_earlier s d f direct in
-        subst (λ (p : Pair). Follows (clock_event_at t f).ticks p q) (sym (h.claims d (omega (arith, lt, shown))))
-        (subst (λ b. Follows b (pair_at others (to d)) q) same_ticks (feasible.follows (to d) (direct_kept s r to back links d f direct)));
-  }
+  feasible_returned = feasible_here t u claimed others to back h.events f exists same_before
 
   least_feasible_kept : (p : Pair) → IsLeastFeasibleAt t claimed f p → IsLeastFeasibleAt u others (to f) p
-  least_feasible_kept p rule = record {
-    feasible = feasible_kept p rule.feasible;
-    least = λ q feasible. rule.least q (feasible_returned q feasible);
-  }
+  least_feasible_kept = least_there t u claimed others to back h.events f exists same_before
 
   written_kept : (top : ℕ) (p : Pair) → IsLeastWritten t claimed top f p → IsLeastWritten u others top (to f) p
   written_kept top p least = record {
@@ -403,12 +465,6 @@ module _ (log other : LogInOrder) (to back : ℕ → ℕ) (h : TellTheSame log o
       place_of_index other.events other.order h.other_ordered.causal (to (place_at log.order k))
       (h.events.there.exists (place_at log.order k) (place_exists log.events log.order h.ordered.causal k lt))
 
-  same_claim : (k : ℕ) → k < length log.order → pair_at (claimed_of log) k ≡ pair_at (claimed_of other) (moved_position log other to k)
-  same_claim k lt =
-      let there = moved_there k lt in
-      claimed_at log.events log.order k lt ∙ sym (h.claims (place_at log.order k) (place_exists log.events log.order h.ordered.causal k lt))
-      ∙ ap (λ (e : ℕ). (event_at other.events e).stamp) (sym there.1) ∙ sym (claimed_at other.events other.order (moved_position log other to k) there.0)
-
   pub same_rule : (k : ℕ) → k < length log.order
       → own_at (rules_in other.receives other.events other.order) (moved_position log other to k) ≡ own_at (rules_in log.receives log.events log.order) k
   same_rule k lt =
@@ -423,22 +479,85 @@ skeletons_moved log other to back h =
     skeletons_reordered log.events other.events to back h.events h.ordered.messages.once h.other_ordered.messages.once log.order other.order
     h.ordered.causal h.other_ordered.causal
 
-pub logs_are_reordered_traces : LogsAreReorderedTraces
-logs_are_reordered_traces log other to back h =
-    let s = skeleton_of log in
-    let rules = rules_in log.receives log.events log.order in
-    let others = rules_in other.receives other.events other.order in
-    let clocks = rules_are_reordered rules others s (skeleton_of other) (moved_position log other to) (moved_position other log back)
-    (skeletons_moved log other to back h)
+-- and so are they as clock rules read them
+pub clocks_moved : (log other : LogInOrder) (to back : ℕ → ℕ) → TellTheSame log other to back
+    → IsClockReordering (clocks_of log) (clocks_of other) (moved_position log other to) (moved_position other log back)
+clocks_moved log other to back h =
+    rules_are_reordered (rules_in log.receives log.events log.order) (rules_in other.receives other.events other.order) (skeleton_of log)
+    (skeleton_of other) (moved_position log other to) (moved_position other log back) (skeletons_moved log other to back h)
     (sends_are_named log.events log.order h.ordered.causal) (sends_are_named other.events other.order h.other_ordered.causal) h.receives
-    (λ k lt. same_rule log other to back h k (omega (arith, lt, length-skeleton_in log.events log.order h.ordered.causal))) in
-    record {
-      events = clocks;
-      claims = λ k exists.
-          let size = length-skeleton_in log.events log.order h.ordered.causal in
-          let seen = skeleton_size (clocks_of log) ∙ clock_events_size rules s in
-          same_claim log other to back h k (omega (arith, exists, size, seen));
-    }
+    (λ k lt. same_rule log other to back h k (omega (arith, lt, length-skeleton_in log.events log.order h.ordered.causal)))
+
+-- the stamps that they claim
+module _ (log other : LogInOrder) (to back : ℕ → ℕ) (h : TellTheSame log other to back) where
+  abbrev there : ℕ → ℕ
+  there = moved_position log other to
+
+  pub same_carried : (k : ℕ) → k < length log.order → carried_of other (there k) ≡ carried_of log k
+  same_carried k lt =
+      ap (λ (e : ℕ). (event_at other.events e).carried) (moved_there log other to back h k lt).1
+      ∙ h.events.there.carried (place_at log.order k) (place_exists log.events log.order h.ordered.causal k lt)
+
+  pub same_told : (k : ℕ) → k < length log.order → stamp_told other (there k) ≡ stamp_told log k
+  same_told k lt =
+      ap (λ (e : ℕ). (event_at other.events e).has_stamp) (moved_there log other to back h k lt).1
+      ∙ h.events.there.has_stamp (place_at log.order k) (place_exists log.events log.order h.ordered.causal k lt)
+
+  pub claims_size : length (claimed_of log) ≡ length (clocks_of log)
+  claims_size = length-claimed_of log ∙ sym (length-clocks_of log)
+
+  pub other_claims_size : length (claimed_of other) ≡ length (clocks_of other)
+  other_claims_size = length-claimed_of other ∙ sym (length-clocks_of other)
+
+  abbrev pub IsSameClaim : ℕ → Type 0
+  IsSameClaim k = pair_at (claimed_of log) k ≡ pair_at (claimed_of other) (there k)
+
+  told_claim : (k : ℕ) → k < length log.order → stamp_told log k ≡ true → IsSameClaim k
+  told_claim k lt is_told =
+      let at = moved_there log other to back h k lt in
+      claimed_at log.events log.order k lt
+      ∙ sym (h.claims (place_at log.order k) (place_exists log.events log.order h.ordered.causal k lt) is_told)
+      ∙ ap (λ (e : ℕ). (event_at other.events e).stamp) (sym at.1) ∙ sym (claimed_at other.events other.order (there k) at.0)
+
+  -- a stamp that is given depends on those before it
+  given_claim : (k : ℕ) → k < length log.order → stamp_told log k ≡ false → ((d : ℕ) → d < k → IsSameClaim d) → IsSameClaim k
+  given_claim k lt untold before =
+      let t = clocks_of log in
+      let u = clocks_of other in
+      let clocks = clocks_moved log other to back h in
+      let shown : k < length (clock_skeleton t) = omega (arith, read log other to back h k lt, skeleton_size t) in
+      let send = send_of (clock_skeleton t) k in
+      let carried = carried_of log k in
+      let at = moved_there log other to back h k lt in
+      h.ordered.given k lt untold
+      ∙ sym (given_moved t u (seen_of log k) (seen_of other (there k)) there (moved_position other log back) clocks k (read log other to back h k lt)
+      (λ d direct.
+      let less = direct_earlier (clock_skeleton t) d k direct in
+      same_seen t u (claimed_of log) (claimed_of other) there (moved_position other log back) clocks.links claims_size other_claims_size send carried
+      (send_exists (clock_skeleton t) (clock_skeleton u) there (moved_position other log back) clocks.links k shown) d (omega arith) (before d less)
+      ∙ ap (λ (o : Option ℕ). pair_at (seen_pairs (claimed_of other) o carried) (there d))
+      (sym (send_moved (clock_skeleton t) (clock_skeleton u) there (moved_position other log back) clocks.links k shown))
+      ∙ ap (λ (c : Option Pair). pair_at (seen_pairs (claimed_of other) (send_of (clock_skeleton u) (there k)) c) (there d)) (sym (same_carried k lt))))
+      ∙ sym (h.other_ordered.given (there k) at.0 (same_told k lt ∙ untold))
+
+  claims_below : (n k : ℕ) → k < n → k < length log.order → IsSameClaim k
+  claims_below zero k lt within = absurd (omega (arith, lt))
+  claims_below (suc n) k lt within = elim (cases_Bool (stamp_told log k)) [
+    | inl told ↦ told_claim k within told
+    | inr untold ↦ given_claim k within untold (λ d less. claims_below n d (omega arith) (omega arith))
+  ]
+
+  pub same_claim : (k : ℕ) → k < length log.order → IsSameClaim k
+  same_claim k lt = claims_below (suc k) k (omega arith) lt
+
+pub logs_are_reordered_traces : LogsAreReorderedTraces
+logs_are_reordered_traces log other to back h = record {
+  events = clocks_moved log other to back h;
+  claims = λ k exists.
+      let size = length-skeleton_in log.events log.order h.ordered.causal in
+      let seen = skeleton_size (clocks_of log) ∙ clock_events_size (rules_in log.receives log.events log.order) (skeleton_of log) in
+      same_claim log other to back h k (omega (arith, exists, size, seen));
+}
 
 -- so the events that correspond claim equal stamps, and have equal least ones
 module _ (log other : LogInOrder) (to back : ℕ → ℕ) (h : TellTheSame log other to back) where
@@ -460,6 +579,7 @@ turned_log log other to back h = record {
   ordered = h.other_ordered;
   other_ordered = h.ordered;
   events = record { there = h.events.here; here = h.events.there; back_here = h.events.back_there; back_there = h.events.back_here };
-  claims = λ f lt.
-      sym (h.claims (back f) (h.events.here.exists f lt)) ∙ ap (λ (e : ℕ). (event_at other.events e).stamp) (h.events.back_there f lt);
+  claims = λ f lt told.
+      sym (h.claims (back f) (h.events.here.exists f lt) (h.events.here.has_stamp f lt ∙ told))
+      ∙ ap (λ (e : ℕ). (event_at other.events e).stamp) (h.events.back_there f lt);
 }

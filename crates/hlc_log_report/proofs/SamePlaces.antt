@@ -111,7 +111,7 @@ flat_moved {X} n to back there back_here f g same =
     (flat_places_moved n to back there back_here g)
 
 -- tests over places
-count_push : {X : Type 0} (p : X → Bool) (xs : List X) (x : X) → count_by p (xs ++ x ∷ []) ≡ count_by p xs + cond (p x) 1 0
+pub count_push : {X : Type 0} (p : X → Bool) (xs : List X) (x : X) → count_by p (xs ++ x ∷ []) ≡ count_by p xs + cond (p x) 1 0
 count_push {X} p xs x = fold-append (λ (k : ℕ) (y : X). k + cond (p y) 1 0) 0 xs (x ∷ [])
 
 count_mapped : {X : Type 0} (p : X → Bool) (f : ℕ → X) (n : ℕ) → count_by p (map f (places_below n)) ≡ count_by (λ (k : ℕ). p (f k)) (places_below n)

@@ -1,5 +1,5 @@
 -- The events of a log in a causal order, as causality sees them.
-use Rattle.std.specs.Prelude.{◌≡◌, ◌≢◌, ℕ, Bool, ◌<◌, ◌≤◌, Option, Some, None, List, length, map, slice_index_or, slice_set}
+use Rattle.std.specs.Prelude.{◌≡◌, ◌≢◌, ℕ, Bool, false, ◌<◌, ◌≤◌, All, Option, Some, None, List, length, map, if◌then◌else◌, slice_index_or, slice_set}
 use Rattle.hlc_stamp.specs.declared.id.EventId.{EventId}
 use Rattle.hlc_stamp.specs.Ids.{places_of}
 use Rattle.hlc_stamp.specs.declared.limits.TheConstants.{MAX_CAPACITY, MAX_NODES}
@@ -9,10 +9,12 @@ use Rattle.hlc_causality.specs.declared.receives.Receives.{Receives}
 use Rattle.hlc_causality.specs.ClockEvents.{ClockEvents}
 use Rattle.hlc_causality.specs.Feasible.{IsLeastFeasible}
 use Rattle.hlc_causality.specs.ReceiveEvents.{clock_events}
+use Rattle.hlc_causality.specs.Assignment.{pair_at}
+use Rattle.hlc_causes.specs.Given.{given_at}
 use Rattle.hlc_causes.specs.Seen.{seen_at, wrongly_carried}
 use Rattle.hlc_execution.specs.Execution.{HasLeastClockStamps, StoredExecution, clock_of}
 use Rattle.hlc_log.specs.CausalOrder.{IsCausalOrder, place_at}
-use Rattle.hlc_log.specs.Events.{event_at}
+use Rattle.hlc_log.specs.Events.{IsInRange, event_at, with_stamp}
 use Rattle.hlc_log.specs.Log.{StoredLog}
 use Rattle.hlc_log.specs.Messages.{AreMessagesSound, Sends, SendsTo}
 use Rattle.hlc_log.specs.OrderSkeleton.{rules_in, skeleton_in}
@@ -107,16 +109,40 @@ IsCarriedRightly log = (k : ℕ) → k < length log.order → wrong_of log k ≡
 abbrev pub reading_told : LogInOrder → ℕ → Bool
 reading_told log k = (event_in_order log.events log.order k).has_reading
 
+-- whether the log tells the stamp of the event at a position
+abbrev pub stamp_told : LogInOrder → ℕ → Bool
+stamp_told log k = (event_in_order log.events log.order k).has_stamp
+
 -- the line of the event at a position
 abbrev pub line_in : LogInOrder → ℕ → ℕ
 line_in log k = (event_in_order log.events log.order k).line
 
--- each message is sent once and received only if it is sent, the order is causal, and the stamps are the least
+-- each of the first n events that has no stamp has the one that the clock rule gives it, after the stamps that it saw claimed just before it
+abbrev pub AreGivenBefore : LogInOrder → ℕ → Type 0
+AreGivenBefore log n = (k : ℕ) → k < n → stamp_told log k ≡ false → pair_at (claimed_of log) k ≡ given_at (clocks_of log) (seen_of log k) k
+
+-- so it is of all events
+abbrev pub IsGivenStamps : LogInOrder → Type 0
+IsGivenStamps log = AreGivenBefore log (length log.order)
+
+-- each message is sent once and received only if it is sent, the order is causal, the least stamps are those, and stamps that aren't told are given;
+-- readings and floors are in range, and the stamps of restarts are told
 pub record IsInOrder (log : LogInOrder) : Type 0 where
   pub few : length log.events ≤ MAX_CAPACITY
+  pub in_range : All IsInRange log.events
   pub messages : AreMessagesSound log.events
   pub causal : IsCausalOrder log.events log.order
   pub least : IsLeastFeasible (clocks_of log) log.least
+  pub given : IsGivenStamps log
+
+-- an event with this stamp, unless its own is told
+abbrev pub filled_event : LogEvent → Pair → LogEvent
+filled_event event stamp = if event.has_stamp then event else with_stamp stamp event
+
+-- events are those of a log, each without a stamp with some stamp
+pub record AreFilled (events filled : List LogEvent) : Type 0 where
+  pub one_each : length filled ≡ length events
+  pub each : (e : ℕ) → e < length events → event_at filled e ≡ filled_event (event_at events e) (event_at filled e).stamp
 
 -- each place in an order is one of n events
 abbrev pub EachExists : ℕ → List ℕ → Type 0
@@ -138,14 +164,6 @@ pub record IsExecutionOf (events : List LogEvent) (order : List ℕ) (execution 
   pub clocks_are : clock_of execution ≡ clock_events (rules_in execution.rules.receives events order) (skeleton_in events order)
   pub least : HasLeastClockStamps execution
 
--- the parts that a log in order is kept in agree
-pub record AreParts (log : StoredLog) (order positions : List EventId) (execution : StoredExecution) : Type 0 where
-  pub few : length log.events ≤ MAX_CAPACITY
-  pub messages : AreMessagesSound log.events
-  pub causal : IsCausalOrder log.events (places_of order)
-  pub positions_are : ArePositions (places_of order) (length log.events) positions
-  pub execution_is : IsExecutionOf log.events (places_of order) execution
-
 -- the log in order that parts hold
 abbrev pub log_in_order : StoredLog → List EventId → StoredExecution → LogInOrder
 log_in_order log order execution = record {
@@ -154,3 +172,13 @@ log_in_order log order execution = record {
   order = places_of order;
   least = execution.stamps;
 }
+
+-- the parts that a log in order is kept in agree
+pub record AreParts (log : StoredLog) (order positions : List EventId) (execution : StoredExecution) : Type 0 where
+  pub few : length log.events ≤ MAX_CAPACITY
+  pub in_range : All IsInRange log.events
+  pub messages : AreMessagesSound log.events
+  pub causal : IsCausalOrder log.events (places_of order)
+  pub positions_are : ArePositions (places_of order) (length log.events) positions
+  pub execution_is : IsExecutionOf log.events (places_of order) execution
+  pub given : IsGivenStamps (log_in_order log order execution)

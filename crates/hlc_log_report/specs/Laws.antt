@@ -1,16 +1,18 @@
 -- The laws of reordered logs: what is answered of an event doesn't depend on the order in which events are listed.
-use Rattle.std.specs.Prelude.{◌≡◌, ℕ, Bool, ◌<◌, List, Option, length, option_map}
+use Rattle.std.specs.Prelude.{◌≡◌, ℕ, Bool, true, ◌<◌, List, Option, length, option_map}
 use Rattle.hlc_stamp.specs.Order.{Pair}
 use Rattle.hlc_causality.specs.Causality.{Skeleton}
 use Rattle.hlc_causality.specs.ClockEvents.{ClockEvents}
 use Rattle.hlc_causality.specs.Feasible.{IsLeastFeasible}
-use Rattle.hlc_causes.specs.Causes.{NamesCauses, NamesFinding}
+use Rattle.hlc_causes.specs.Causes.{NamesCauses, NamesFinding, RollsOver}
 use Rattle.hlc_causes.specs.Verdicts.{verdict_on}
 use Rattle.hlc_causes.specs.declared.answers.Causes.{Causes}
 use Rattle.hlc_causes.specs.declared.answers.Finding.{Finding}
+use Rattle.hlc_log.specs.declared.log_event.LogEvent.{LogEvent}
 use Rattle.hlc_log.specs.Reordering.{IsReordering, IsSameNode}
 use Rattle.hlc_log_report.specs.Counts.{AreCounted}
-use Rattle.hlc_log_report.specs.InOrder.{LogInOrder, claimed_of, clocks_of, seen_of, wrong_of}
+use Rattle.hlc_log_report.specs.Found.{FindsAt, IsCauseAt, NamesCausesIn}
+use Rattle.hlc_log_report.specs.InOrder.{AreFilled, IsCarriedRightly, IsInOrder, LogInOrder, claimed_of, clocks_of, seen_of, stamp_told, wrong_of}
 use Rattle.hlc_log_report.specs.Messages.{message_counts}
 use Rattle.hlc_log_report.specs.Moved.{moved_causes, moved_finding, moved_skew, moved_verdict}
 use Rattle.hlc_log_report.specs.Reordered.{IsRearranged, IsReorderedTrace, TellTheSame, moved_position}
@@ -59,8 +61,7 @@ RearrangedLogsTellTheSame = (log other : LogInOrder) (to back : ℕ → ℕ) →
 -- they have as many stamps with each verdict
 abbrev pub CountsAgree : Type 0
 CountsAgree = (log other : LogInOrder) (to back : ℕ → ℕ) → IsRearranged log other to back → (full : ℕ) (counts others : Counts) →
-    AreCounted (clocks_of log) (seen_of log) log.least full counts →
-    AreCounted (clocks_of other) (seen_of other) other.least full others → others ≡ counts
+    AreCounted log full counts → AreCounted other full others → others ≡ counts
 
 -- and as many messages of each kind
 abbrev pub MessagesAgree : Type 0
@@ -68,20 +69,30 @@ MessagesAgree = (log other : LogInOrder) (to back : ℕ → ℕ) → IsRearrange
 
 -- of each event of logs that tell the same, the same is found
 abbrev pub FindingsAgree : Type 0
-FindingsAgree = (log other : LogInOrder) (to back : ℕ → ℕ) → TellTheSame log other to back → (full k : ℕ) (found : Finding) → k < length log.order →
-    NamesFinding (clocks_of log) (seen_of log k) log.least full k found →
-    let moved = moved_position log other to in
-    NamesFinding (clocks_of other) (seen_of other (moved k)) other.least full (moved k) (moved_finding moved found)
+FindingsAgree = (log other : LogInOrder) (to back : ℕ → ℕ) → TellTheSame log other to back → (full k : ℕ) (found : Option Finding) →
+    k < length log.order → FindsAt log full k found →
+    let moved = moved_position log other to in FindsAt other full (moved k) (option_map (moved_finding moved) found)
 
 -- and each breaks the same rules
 abbrev pub CausesAgree : Type 0
-CausesAgree = (log other : LogInOrder) (to back : ℕ → ℕ) → TellTheSame log other to back → (full k : ℕ) (answer : Causes) → k < length log.order →
-    NamesCauses (clocks_of log) (seen_of log k) full k answer →
-    let moved = moved_position log other to in
-    NamesCauses (clocks_of other) (seen_of other (moved k)) full (moved k) (moved_causes moved answer)
+CausesAgree = (log other : LogInOrder) (to back : ℕ → ℕ) → TellTheSame log other to back → (full k : ℕ) (answer : Causes) →
+    k < length log.order → NamesCausesIn log full k answer →
+    let moved = moved_position log other to in NamesCausesIn other full (moved k) (moved_causes moved answer)
 
 -- and what messages carried wrongly they did in both
 abbrev pub WrongAgrees : Type 0
 WrongAgrees = (log other : LogInOrder) (to back : ℕ → ℕ) → TellTheSame log other to back → (k : ℕ) → k < length log.order →
     let moved = moved_position log other to in
     wrong_of other (moved k) ≡ option_map moved (wrong_of log k)
+
+-- the stamps that are given don't depend on the order: two logs with the same events, but for stamps that aren't told, have the same ones
+abbrev pub GivenStampsAgree : Type 0
+GivenStampsAgree = (events : List LogEvent) (log other : LogInOrder) → other.receives ≡ log.receives → IsInOrder log → IsInOrder other →
+    AreFilled events log.events → AreFilled events other.events → other.events ≡ log.events
+
+-- where no event is a cause, no told stamp rolls over, and each message carried what its send claims, the log claims the least stamps
+abbrev pub NoCausesAreLeast : Type 0
+NoCausesAreLeast = (log : LogInOrder) (full : ℕ) → IsInOrder log → IsCarriedRightly log →
+    ((k : ℕ) → k < length log.order → ¬ IsCauseAt log full k) →
+    ((k : ℕ) → k < length log.order → stamp_told log k ≡ true → ¬ RollsOver (clocks_of log) (seen_of log k) full k) →
+    claimed_of log ≡ log.least

@@ -1,4 +1,5 @@
 pub mod Counts
+pub mod Found
 pub mod InOrder
 pub mod Laws
 pub mod Messages
@@ -7,3 +8,4 @@ pub mod Reordered
 pub mod Skew
 pub mod Outside
 pub mod Unread
+pub mod Unstamped

@@ -1,5 +1,4 @@
 ghost use Rattle.std.specs.Prelude.{◌≡◌};
-ghost use Rattle.hlc_log_report.specs.InOrder.{clocks_of, seen_of};
 ghost use Rattle.hlc_log_report.specs.Counts.{AreCounted, CanCountFinding, no_findings, with_finding};
 
 use crate::ordered_log::OrderedLog;
@@ -7,7 +6,7 @@ use hlc_causes::Finding;
 use hlc_stamp::EventId;
 use hlc_verdict::Verdict;
 
-/// How many of the stamps of a log have each verdict.
+/// How many of the stamps that a log tells have each verdict.
 #[derive(Clone, Copy, PartialEq, Eq)]
 pub struct Counts {
     /// Behind their readings.
@@ -39,27 +38,28 @@ impl Counts {
         }
     }
 
-    // Counts one finding more.
-    fn add(&mut self, finding: Finding)
+    // Counts one finding more, if there is one.
+    fn add(&mut self, finding: Option<Finding>)
         requires { CanCountFinding self.old }
         ensures { self.new ≡ with_finding self.old finding }
     {
         match finding {
-            Finding::Judged(Verdict::Behind) => self.behind += 1,
-            Finding::Judged(Verdict::NotAbove(_)) => self.not_above += 1,
-            Finding::Judged(Verdict::Low(_)) => self.low += 1,
-            Finding::Judged(Verdict::Least) => self.least += 1,
-            Finding::Judged(Verdict::Ahead(_)) => self.ahead += 1,
-            Finding::RolledOver => self.rolled_over += 1,
+            None => {}
+            Some(Finding::Judged(Verdict::Behind)) => self.behind += 1,
+            Some(Finding::Judged(Verdict::NotAbove(_))) => self.not_above += 1,
+            Some(Finding::Judged(Verdict::Low(_))) => self.low += 1,
+            Some(Finding::Judged(Verdict::Least)) => self.least += 1,
+            Some(Finding::Judged(Verdict::Ahead(_))) => self.ahead += 1,
+            Some(Finding::RolledOver) => self.rolled_over += 1,
         }
     }
 }
 
-/// How many of the stamps of a log have each verdict. `full` is the greatest `c` that their form can write.
+/// How many of the stamps that a log tells have each verdict. `full` is the greatest `c` that their form can write.
 ///
 /// It goes over the events once, and takes no memory.
 pub fn count_findings(log: &OrderedLog, full: u32) -> Counts
-    ensures { AreCounted (clocks_of log.now) (seen_of log.now) log.now.least full result }
+    ensures { AreCounted log.now full result }
 {
     let mut counts = Counts::new();
     for position in 0..log.len() {

@@ -1,9 +1,10 @@
 //! The laws of reordered logs, as contracts of functions that do nothing: an audit is a function of the events of its log, and not
 //! of the order of its lines.
 //!
-//! A log in another order has the same events at each node in the same order, delivers the same sends, and claims the same stamps.
+//! A log in another order has the same events at each node in the same order, delivers the same sends, and claims the same stamps where
+//! it tells stamps. The others are given alike.
 
-ghost use Rattle.hlc_log_report.specs.Laws.{CausesAgree, CountsAgree, FindingsAgree, LogsAreReorderedTraces, MessagesAgree, RearrangedLogsTellTheSame, ReorderingKeepsCauses, ReorderingKeepsFindings, ReorderingKeepsSkews, ReorderingKeepsVerdicts, WrongAgrees};
+ghost use Rattle.hlc_log_report.specs.Laws.{CausesAgree, CountsAgree, FindingsAgree, GivenStampsAgree, LogsAreReorderedTraces, MessagesAgree, NoCausesAreLeast, RearrangedLogsTellTheSame, ReorderingKeepsCauses, ReorderingKeepsFindings, ReorderingKeepsSkews, ReorderingKeepsVerdicts, WrongAgrees};
 
 /// The verdict on an event, what is found of it, and how it breaks the clock rule don't depend on the order in which events are
 /// listed. An answer that names another event names the same one.
@@ -33,4 +34,16 @@ pub fn rearranged_logs_agree()
     ensures same { RearrangedLogsTellTheSame }
     ensures counts { CountsAgree }
     ensures messages { MessagesAgree }
+{}
+
+/// The stamps that events without one are given don't depend on the order: however the same events are put in order, they have the
+/// same stamps.
+pub fn given_stamps_agree()
+    ensures { GivenStampsAgree }
+{}
+
+/// Where no event is a cause, no stamp that is told rolls over, and each message carried what its send claims, the log claims the least
+/// stamps.
+pub fn no_causes_are_least()
+    ensures { NoCausesAreLeast }
 {}

@@ -3,11 +3,16 @@
 //! - `OrderedLog` is a log (`hlc_log`) in a causal order, with the stamps that it claims and the least ones. Its `finding` and `causes`
 //!   say what `hlc_causes` finds of an event, by its `execution` and itself, as `Claims`. An event has two numbers: its place in the
 //!   log, and its position in the order. `event` and `position` lead from the one to the other.
-//! - `count_findings` says how many of the claimed stamps have each verdict: `Counts`.
+//! - An event of which the log tells no stamp is given the one of the clock rule, after the stamps claimed just before it. It claims nothing
+//!   itself: `finding` and `causes` say nothing of it, but what comes after it sees its stamp. `has_stamp` says of which events stamps are
+//!   told.
+//! - `count_findings` says how many of the stamps that the log tells have each verdict: `Counts`.
 //! - `count_messages` says how many messages were sent and received, received more than once, and never: `MessageCounts`.
 //! - `skews_of` says of each two nodes how far the clock of one is ahead of the other's, as messages show it: a `Skew` each.
-//! - `count_unread` says at how many events the log doesn't tell what the clock read. Such an event shows no skew.
-//! - `laws` says that verdicts, causes and skews don't depend on the order in which the log tells of its events.
+//! - `count_missing` says of how many events something isn't in the log: their send, what their clock read, or the stamp of a receive:
+//!   `MissingCounts`. Without a reading an event shows no skew; without a stamp it is no cause, and has no verdict.
+//! - `laws` says that verdicts, causes, skews and the stamps that are given don't depend on the order in which the log tells of its events,
+//!   and that a log where nothing is wrong claims the least stamps.
 //!
 //! All but `OrderedLog::new` go over the events once, and only it and `skews_of` take memory.
 //!
@@ -21,7 +26,7 @@
 //!     requires numbered { All (IsNumbered messages) log.events }
 //!     requires in_range { All IsInRange log.events }
 //!     ensures counts { IfOk result (λ counts. (ordered : LogInOrder) × IsInOrder ordered
-//!         × (ordered.events ≡ log.events) × (counts ≡ message_counts ordered)) }
+//!         × AreFilled log.events ordered.events × (counts ≡ message_counts ordered)) }
 //!     ensures fault { IfErr result (IsFaultOf log.events) }
 //! {
 //!     let order = causal_order(alloc, &log, messages)?;
@@ -32,19 +37,18 @@
 #![tactic(auto)]
 
 mod counts;
+mod giving;
 mod in_order;
 pub mod laws;
 mod messages;
+mod missing;
 mod ordered_log;
-mod outside;
 mod skew;
 mod skews;
-mod unread;
 
 pub use counts::{Counts, count_findings};
 pub use messages::{MessageCounts, count_messages};
+pub use missing::{MissingCounts, count_missing};
 pub use ordered_log::OrderedLog;
-pub use outside::count_outside;
 pub use skew::Skew;
 pub use skews::skews_of;
-pub use unread::count_unread;

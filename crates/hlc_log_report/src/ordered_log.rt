@@ -5,12 +5,13 @@ ghost use Rattle.hlc_causality.specs.ClockEvents.{clock_skeleton};
 ghost use Rattle.hlc_causality.specs.Neighbours.{place_of};
 ghost use Rattle.hlc_causality.specs.Predecessors.{send_of};
 ghost use Rattle.hlc_execution.specs.Execution.{HasLeastClockStamps, clock_of};
-ghost use Rattle.hlc_causes.specs.Causes.{NamesCauses, NamesFinding};
 ghost use Rattle.hlc_log.specs.CausalOrder.{IsCausalOrder, place_at};
 ghost use Rattle.hlc_log.specs.Events.{IsInRange, IsNumbered, event_at};
 ghost use Rattle.hlc_log.specs.Messages.{AreMessagesSound};
-ghost use Rattle.hlc_log_report.specs.InOrder.{ArePositions, EachDiffers, EachExists, IsInOrder, claimed_of, clocks_of, event_in_order, reading_told, seen_of, skeleton_of, wrong_of};
+ghost use Rattle.hlc_log_report.specs.Found.{FindsAt, NamesCausesIn};
+ghost use Rattle.hlc_log_report.specs.InOrder.{AreFilled, ArePositions, EachDiffers, EachExists, IsInOrder, carried_of, claimed_of, clocks_of, event_in_order, reading_told, seen_of, skeleton_of, stamp_told, wrong_of};
 
+use crate::giving::give_stamps;
 use crate::in_order::execution_in;
 use hlc_causality::Receives;
 use hlc_causes::{Causes, Claims, Finding, Seen, causes_at, finding};
@@ -23,7 +24,8 @@ use std::marker::Model;
 /// The events of a log in a causal order, with the stamps that the log claims and the least ones.
 ///
 /// An event has two numbers: its place in the log, and its position in the order. The execution and all answers name it by its
-/// position.
+/// position. An event of which the log tells no stamp has the one that the clock rule gives it, after those claimed just before it: it
+/// claims nothing itself, so nothing is found of it, and it is no cause.
 #[derive(Drop)]
 pub struct OrderedLog {
     log: Log,
@@ -60,11 +62,12 @@ fn positions_in(alloc: Global, order: &[EventId], events: u32) -> Result<Vec<Eve
 
 impl OrderedLog {
     /// A log in a causal order, as `causal_order` finds one, whose clocks do this at receives. Messages have numbers below `messages`.
+    /// Each event without a stamp is given its own.
     ///
     /// It takes the memory of an `Execution` and 4 bytes for each event; before these last 4, it takes 4 for each message for a while.
     pub fn new(
         alloc: Global,
-        log: Log,
+        mut log: Log,
         order: Vec<EventId>,
         messages: u32,
         receives: Receives,
@@ -74,13 +77,14 @@ impl OrderedLog {
         requires sound { AreMessagesSound log.events }
         requires order { IsCausalOrder log.events (places_of order.items) }
         ensures receives { IfOk result (λ ordered. ordered.receives ≡ receives) }
-        ensures events { IfOk result (λ ordered. ordered.events ≡ log.events) }
+        ensures events { IfOk result (λ ordered. AreFilled log.events ordered.events) }
         ensures order { IfOk result (λ ordered. ordered.order ≡ places_of order.items) }
         ensures ordered { IfOk result IsInOrder }
     {
         let events = log.len();
         let execution = execution_in(alloc, &log, &order, messages, receives)?;
         let positions = positions_in(alloc, &order, events)?;
+        give_stamps(&mut log, &order, &execution);
         Ok(OrderedLog {
             log,
             order,
@@ -133,6 +137,14 @@ impl OrderedLog {
         self.log.has_reading_at(self.order[position.0 as usize])
     }
 
+    /// Whether the log tells the stamp of the event at a position in the order.
+    pub fn has_stamp(&self, position: EventId) -> bool
+        requires { position.0 < length self.now.events }
+        ensures { result ≡ stamp_told self.now position.0 }
+    {
+        self.log.has_stamp_at(self.order[position.0 as usize])
+    }
+
     /// The place in the log of the event at a position in the order.
     pub fn place(&self, position: EventId) -> EventId
         requires { position.0 < length self.now.events }
@@ -150,12 +162,20 @@ impl OrderedLog {
         self.execution.send(position)
     }
 
+    // What the message of the event at a position carried, if the log tells that.
+    fn carried(&self, position: EventId) -> Option<Stamp>
+        requires { position.0 < length self.now.events }
+        ensures { result ≡ carried_of self.now position.0 }
+    {
+        self.log.carried_at(self.order[position.0 as usize])
+    }
+
     // The stamps that are claimed, as the event at a position saw them.
     fn seen(&self, position: EventId) -> Seen<'_, OrderedLog>
         requires { position.0 < length self.now.events }
         ensures { result ≡ seen_of self.now position.0 }
     {
-        Seen::new(self, self.send(position), self.event(position).carried)
+        Seen::new(self, self.send(position), self.carried(position))
     }
 
     /// The send of what the event at a position receives, if the message carried another stamp than the log claims for the send.
@@ -163,8 +183,8 @@ impl OrderedLog {
         requires { position.0 < length self.now.events }
         ensures { place_of result ≡ wrong_of self.now position.0 }
     {
+        let carried = self.carried(position)?;
         let send = self.send(position)?;
-        let carried = self.event(position).carried?;
         if carried == self.stamp(send) {
             None
         } else {
@@ -172,23 +192,33 @@ impl OrderedLog {
         }
     }
 
-    /// What is found of the stamp claimed for the event at a position, by the stamps that it saw claimed. `full` is the greatest `c` that the form of the stamps can write.
-    pub fn finding(&self, position: EventId, full: u32) -> Finding
+    /// What is found of the stamp claimed for the event at a position, by the stamps that it saw claimed; nothing if the log tells none.
+    ///
+    /// `full` is the greatest `c` that the form of the stamps can write.
+    pub fn finding(&self, position: EventId, full: u32) -> Option<Finding>
         requires { position.0 < length self.now.events }
-        ensures { NamesFinding (clocks_of self.now) (seen_of self.now position.0) self.now.least full position.0 result }
+        ensures { FindsAt self.now full position.0 result }
     {
-        finding(&self.execution, &self.seen(position), position, full)
+        if !self.has_stamp(position) {
+            return None;
+        }
+        Some(finding(&self.execution, &self.seen(position), position, full))
     }
 
-    /// The rules of clocks that were broken at the event at a position, by the stamps that it saw claimed.
+    /// The rules of clocks that were broken at the event at a position, by the stamps that it saw claimed; none if the log tells no stamp of
+    /// it.
     pub fn causes(&self, position: EventId, full: u32) -> Causes
         requires { position.0 < length self.now.events }
-        ensures { NamesCauses (clocks_of self.now) (seen_of self.now position.0) full position.0 result }
+        ensures { NamesCausesIn self.now full position.0 result }
     {
-        causes_at(&self.execution, &self.seen(position), position, full)
+        if self.has_stamp(position) {
+            causes_at(&self.execution, &self.seen(position), position, full)
+        } else {
+            Causes::none()
+        }
     }
 
-    /// The log alone.
+    /// The log alone, with the stamps that were given.
     pub fn into_log(self) -> Log
         ensures { result.events ≡ self.events }
     {

@@ -172,8 +172,13 @@ fn reports_on_logs(rt: HostRuntime) {
     expect_reports(&rt, rt.alloc(), PAIRS, &LOGS);
 }
 
-// A receive without a send is a local event: the receives that are left are counted.
-static UNSENT: [(&str, &str, Outcome); 2] = [
+// A receive without a send is a local event: the receives that are left are counted. It may have no stamp.
+static UNSENT: [(&str, &str, Outcome); 3] = [
+    (
+        "receive,b,5,,,m\nlocal,b,5,5,1\n",
+        "count,least,1\nnode,b,2,0,1,1\nmessages,0,0,0,0\nunsent,1\nunstamped,1\n",
+        Outcome::Sound,
+    ),
     (
         "receive,b,5,5,0,m\nsend,a,10,10,0,n\nreceive,b,6,10,1,n\n",
         "count,least,3\nnode,b,2,4,3,2\nnode,a,1,0,2,2\nmessages,1,1,0,0\nskew,a,b,4,2,3\nunsent,1\n",
@@ -246,7 +251,7 @@ static RESTARTS: [(&str, &str, Outcome); 7] = [
     (
         "local,a,10,10,5\nlocal,a,12,12,0\nrestart,a,,11,0\nlocal,a,11,11,1\n",
         "count,not-above,1\ncount,low,1\ncount,least,1\ncount,ahead,1\n\
-        cause,1,a,ahead,10,0\ncause,3,a,not-above,2\nnode,a,4,1,3,2\nmessages,0,0,0,0\nunread,1\n",
+        cause,1,a,ahead,10,0\ncause,3,a,not-above,2\nnode,a,4,1,4,2\nmessages,0,0,0,0\nunread,1\n",
         BROKEN,
     ),
     // One that is the last stamp itself.
@@ -263,7 +268,7 @@ static RESTARTS: [(&str, &str, Outcome); 7] = [
     ),
     (
         "restart,a,,20,2147483647\nlocal,a,20,20,2147483648\n",
-        "count,least,2\nnode,a,2,0,1,1\nmessages,0,0,0,0\nunread,1\n",
+        "count,least,2\nnode,a,2,0,2,1\nmessages,0,0,0,0\nunread,1\n",
         Outcome::Sound,
     ),
     // A message takes what was kept to another node.
@@ -332,7 +337,7 @@ static CARRIED: [(&str, &str, Outcome); 12] = [
     // The greatest count that may be carried, by a receive that tells no reading.
     (
         "kind,node,reading,l,c,message,carried_l,carried_c\nreceive,b,,10,2147483647,m,10,2147483646\n",
-        "count,least,1\nnode,b,1,0,2,2\nmessages,0,0,0,0\noutside,1\nunread,1\n",
+        "count,least,1\nnode,b,1,none\nmessages,0,0,0,0\noutside,1\nunread,1\n",
         Outcome::Sound,
     ),
     // The message carried what its send claims, and what local events and sends carried isn't read.
@@ -399,6 +404,109 @@ fn what_is_told_to_be_carried_is_not_local(rt: HostRuntime) {
     expect_reports(&rt, rt.alloc(), UNSENT_LOCAL, &UNSENT_CARRIED);
 }
 
+// Receives that have no stamp: each has the one that the rule gives, and claims nothing.
+static UNSTAMPED: [(&str, &str, Outcome); 7] = [
+    // What comes after it is judged by that stamp: it comes next, or isn't above it.
+    (
+        "send,a,10,10,0,m\nreceive,b,5,,,m\nlocal,b,6,10,2\n",
+        "count,least,2\nnode,a,1,0,1,1\nnode,b,2,5,2,1\nmessages,1,1,0,0\nskew,a,b,5,1,2\nunstamped,1\n",
+        Outcome::Sound,
+    ),
+    (
+        "send,a,10,10,0,m\nreceive,b,5,,,m\nlocal,b,6,10,1\n",
+        "count,not-above,1\ncount,least,1\ncause,3,b,not-above,2\n\
+        node,a,1,0,1,1\nnode,b,2,5,2,1\nmessages,1,1,0,0\nskew,a,b,5,1,2\nunstamped,1\n",
+        BROKEN,
+    ),
+    // It follows what its send claims, which is ahead: (30, 8).
+    (
+        "receive,b,20,,,m\nlocal,b,21,30,9\nsend,a,10,30,7,m\n",
+        "count,ahead,2\ncause,3,a,ahead,10,0\n\
+        node,b,2,0,1,1\nnode,a,1,0,3,3\nmessages,1,1,0,0\nskew,a,b,-10,3,1\nunstamped,1\n",
+        Outcome::Sound,
+    ),
+    // After the greatest count it has the next l: (11, 0).
+    (
+        "send,a,10,10,4294967295,m\nreceive,b,5,,,m\nlocal,b,6,11,1\n",
+        "count,ahead,2\ncause,1,a,ahead,10,0\n\
+        node,a,1,0,1,1\nnode,b,2,5,2,1\nmessages,1,1,0,0\nskew,a,b,5,1,2\nunstamped,1\n",
+        Outcome::Sound,
+    ),
+    // And after the greatest stamp that one again, so that nothing can be above it.
+    (
+        "send,a,10,18446744073709551615,4294967295,m\nreceive,b,5,,,m\nlocal,b,6,18446744073709551615,4294967295\n",
+        "count,not-above,1\ncount,ahead,1\ncause,1,a,ahead,10,0\ncause,3,b,not-above,2\n\
+        node,a,1,0,1,1\nnode,b,2,5,2,1\nmessages,1,1,0,0\nskew,a,b,5,1,2\nunstamped,1\n",
+        BROKEN,
+    ),
+    // It follows what its message carried, if that is told: (10, 4). That this is another stamp than the send claims is told here as well.
+    (
+        "kind,node,reading,l,c,message,carried_l,carried_c\nsend,a,10,10,0,m,,\nreceive,b,5,,,m,10,3\nlocal,b,6,10,5,,,\n",
+        "count,least,1\ncount,ahead,1\ncause,3,b,carried,2\n\
+        node,a,1,0,2,2\nnode,b,2,5,3,2\nmessages,1,1,0,0\nskew,a,b,5,2,3\nunstamped,1\n",
+        BROKEN,
+    ),
+    // From outside, with nothing but that.
+    (
+        "kind,node,l,c,message,carried_l,carried_c\nreceive,b,,,m,10,2\nlocal,b,10,4,,,\n",
+        "count,least,1\nnode,b,2,none\nmessages,0,0,0,0\noutside,1\nunread,2\nunstamped,1\n",
+        Outcome::Sound,
+    ),
+];
+
+#[test]
+fn receives_may_have_no_stamp(rt: HostRuntime) {
+    expect_reports(&rt, rt.alloc(), PAIRS, &UNSTAMPED);
+}
+
+// Receives that name the node which sent their message, by the stamp that it carried.
+static SENDERS: [(&str, &str, Outcome); 6] = [
+    // The send may stand below, and its message needs no name.
+    (
+        "kind,node,reading,l,c,message,carried_l,carried_c,from\nreceive,b,5,10,1,,10,0,a\nsend,a,10,10,0,,,,\n",
+        "count,least,2\nnode,b,1,5,2,3\nnode,a,1,0,3,3\nmessages,1,1,0,0\nskew,a,b,5,3,2\n",
+        Outcome::Sound,
+    ),
+    // A message with a name may be received by that, and by its sender; the sender isn't read where the message is named.
+    (
+        "kind,node,reading,l,c,message,carried_l,carried_c,from\n\
+        send,a,10,10,0,m,,,\nreceive,b,5,10,1,m,,,c\nreceive,c,6,10,1,,10,0,a\n",
+        "count,least,3\nnode,a,1,0,2,2\nnode,b,1,5,3,2\nnode,c,1,4,4,2\nmessages,1,2,1,0\nskew,a,b,5,2,3\nskew,a,c,4,2,4\n",
+        Outcome::Sound,
+    ),
+    // Of two sends with one stamp the first sent it, and nobody received the other.
+    (
+        "kind,node,reading,l,c,carried_l,carried_c,from\nsend,a,10,10,0,,,\nsend,a,10,10,0,,,\nreceive,b,5,10,1,10,0,a\n",
+        "count,not-above,1\ncount,least,2\ncause,3,a,not-above,2\n\
+        node,a,2,0,2,2\nnode,b,1,5,4,2\nmessages,2,1,0,1\nskew,a,b,5,2,4\n",
+        BROKEN,
+    ),
+    // The node has no send with that stamp, or isn't there: then it came in from outside.
+    (
+        "kind,node,reading,l,c,carried_l,carried_c,from\n\
+        send,a,10,10,0,,,\nreceive,b,5,10,2,10,1,a\nreceive,b,6,10,3,10,0,c\n",
+        "count,least,3\nnode,a,1,0,2,2\nnode,b,2,5,3,3\nmessages,1,0,0,1\noutside,2\n",
+        Outcome::Sound,
+    ),
+    // Another node's send with that stamp isn't meant. What receives it needs no stamp.
+    (
+        "kind,node,reading,l,c,carried_l,carried_c,from\nsend,c,10,10,0,,,\nsend,a,10,10,0,,,\nreceive,b,5,,,10,0,a\n",
+        "count,least,2\nnode,c,1,0,2,2\nnode,a,1,0,3,3\nnode,b,1,5,4,3\nmessages,2,1,0,1\nskew,a,b,5,3,4\nunstamped,1\n",
+        Outcome::Sound,
+    ),
+    // A message from itself is received before it is sent.
+    (
+        "kind,node,reading,l,c,carried_l,carried_c,from\nreceive,a,5,10,1,10,0,a\nsend,a,10,10,0,,,\n",
+        "bad,2,cycle\n",
+        Outcome::BadLog,
+    ),
+];
+
+#[test]
+fn receives_may_name_the_sender(rt: HostRuntime) {
+    expect_reports(&rt, rt.alloc(), PAIRS, &SENDERS);
+}
+
 // What a clock does at a receive from outside: it merges what was carried, and its reading counts or doesn't.
 static OUTSIDE: [(Receives, &str, Outcome); 3] = [
     (
@@ -444,7 +552,12 @@ fn receives_from_outside_may_merge(rt: HostRuntime) {
     }
 }
 
-static WITH_A_DOT: [(&str, &str, Outcome); 3] = [
+static WITH_A_DOT: [(&str, &str, Outcome); 4] = [
+    (
+        "send,a,11,11.0,m\nreceive,b,5,,m\nlocal,b,6,11.2\n",
+        "count,least,2\nnode,a,1,0,1,1\nnode,b,2,6,2,1\nmessages,1,1,0,0\nskew,a,b,6,1,2\nunstamped,1\n",
+        Outcome::Sound,
+    ),
     (
         "local,a,10,10.0\nsend,a,11,11.0000000000,m\nreceive,b,11,11.0000000001,m\n",
         "count,least,3\nnode,a,2,0,1,1\nnode,b,1,0,3,2\nmessages,1,1,0,0\nskew,a,b,0,2,3\n",
@@ -494,8 +607,14 @@ const CLAIMS_ROWS: &str =
     node,a,4,0,1,1\nnode,b,2,8,5,4\nnode,c,1,0,7,7\nmessages,1,1,0,0\nskew,a,b,8,4,5\nover,a,2,1,5,1\nover,b,2,5,12,3\n";
 
 // A log, a limit, and the rows.
-static OVER: [(&str, u64, &str); 2] = [
+static OVER: [(&str, u64, &str); 3] = [
     (CLAIMS, 4, CLAIMS_ROWS),
+    // A stamp that is given claims nothing, but its node's drift is told.
+    (
+        "send,a,10,10,0,m\nreceive,b,5,,,m\n",
+        4,
+        "count,least,1\nnode,a,1,0,1,1\nnode,b,1,5,2,1\nmessages,1,1,0,0\nskew,a,b,5,1,2\nunstamped,1\n",
+    ),
     (
         "local,a,10,12,0\n",
         1,
@@ -539,7 +658,13 @@ fn a_broken_log_may_be_over_the_limit(rt: HostRuntime) {
 }
 
 // Logs whose stamps are packed with so many bits for c, and the rows of their reports. All are sound.
-static PACKED: [(u32, &str, &str); 5] = [
+static PACKED: [(u32, &str, &str); 6] = [
+    // (10, 0), a stamp that isn't told, and (11, 1).
+    (
+        4,
+        "send,a,10,160,m\nreceive,b,11,,m\nlocal,b,11,177\n",
+        "count,least,2\nnode,a,1,0,1,1\nnode,b,2,0,2,2\nmessages,1,1,0,0\nskew,a,b,-1,1,2\nunstamped,1\n",
+    ),
     // (10, 0), (10, 1) and (11, 0).
     (
         4,

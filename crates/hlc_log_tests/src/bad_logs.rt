@@ -5,7 +5,7 @@ use hlc_log_audit::Outcome;
 use std::alloc::Global;
 use std::process::Abort;
 
-static BAD_LOGS: [(&str, &str); 39] = [
+static BAD_LOGS: [(&str, &str); 45] = [
     // Faults of a record, the first that holds.
     ("Local,a,1,1,0\n", "bad,1,word\n"),
     ("frob\n", "bad,1,word\n"),
@@ -59,6 +59,24 @@ static BAD_LOGS: [(&str, &str); 39] = [
     ),
     (
         "kind,node,reading,l,c,message,carried_l,carried_c\nreceive,a,1,1,0,,1,0\n",
+        "bad,2,name\n",
+    ),
+    // Half a stamp of a receive, none of another event, and a receive without a stamp of a message that isn't sent.
+    ("receive,b,5,,0,m\n", "bad,1,number\n"),
+    ("local,a,10,,\n", "bad,1,number\n"),
+    ("receive,b,5,,,m\n", "bad,1,unsent\n"),
+    // A receive that names the sender, and doesn't tell what its message carried; one that names nothing; and a send without a message, under a
+    // header that has no senders.
+    (
+        "kind,node,reading,l,c,message,carried_l,carried_c,from\nreceive,b,5,10,1,,,,a\n",
+        "bad,2,number\n",
+    ),
+    (
+        "kind,node,reading,l,c,message,carried_l,carried_c,from\nreceive,b,5,10,1,,10,0,\n",
+        "bad,2,name\n",
+    ),
+    (
+        "kind,node,reading,l,c,message,carried_l,carried_c\nsend,a,10,10,0,,,\n",
         "bad,2,name\n",
     ),
     // After blank lines, and a field over two lines.

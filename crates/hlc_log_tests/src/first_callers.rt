@@ -31,6 +31,7 @@ fn a_send_comes_first(rt: HostRuntime) {
         has_reading: true,
         kind: LogKind::Receive(MessageId(0)),
         stamp: Stamp { l: 2, c: 1 },
+        has_stamp: true,
         carried: None,
         line: 1,
     };
@@ -40,6 +41,7 @@ fn a_send_comes_first(rt: HostRuntime) {
         has_reading: true,
         kind: LogKind::Send(MessageId(0)),
         stamp: Stamp { l: 2, c: 0 },
+        has_stamp: true,
         carried: None,
         line: 2,
     };
@@ -62,6 +64,7 @@ fn messages_are_counted(rt: HostRuntime) {
         has_reading: true,
         kind: LogKind::Send(MessageId(0)),
         stamp: Stamp { l: 2, c: 0 },
+        has_stamp: true,
         carried: None,
         line: 1,
     };

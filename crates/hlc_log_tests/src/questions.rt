@@ -38,7 +38,12 @@ static QUESTIONS: [(&str, &str); 22] = [
 ];
 
 // Logs whose questions are about the log itself, and their answers.
-static SOURCES: [(&str, &str); 2] = [
+static SOURCES: [(&str, &str); 3] = [
+    // A stamp that is given, and no verdict on it.
+    (
+        "send,a,10,10,0,m\nreceive,b,5,,,m,in\nevent,2\n",
+        "event,2,b,5,10,1,10,1,unstamped,in\n",
+    ),
     // Two direct predecessors claim the l of the last line: the one with the greater c brought it, or the node's own.
     (
         "local,a,10,10,3\nsend,b,10,10,3,m\nreceive,a,10,10,5,m\nclaimed,3\n",
@@ -66,6 +71,28 @@ fn answers_questions(rt: HostRuntime) {
     }
     for (log, rows) in &SOURCES {
         expect_report(&rt, rt.alloc(), log.as_bytes(), PAIRS, rows, Outcome::Sound);
+    }
+}
+
+// What clocks do at receives, and the stamp that is given to one.
+static GIVEN: [(Receives, &str); 3] = [
+    (Receives::Tick, "event,2,b,40,40,8,40,0,unstamped\n"),
+    (Receives::Merge, "event,2,b,40,40,7,10,0,unstamped\n"),
+    (Receives::MergeClock, "event,2,b,40,40,7,40,0,unstamped\n"),
+];
+
+#[test]
+fn a_stamp_is_given_by_the_rule_of_receives(rt: HostRuntime) {
+    let log = b"send,a,10,40,7,m\nreceive,b,40,,,m\nevent,2\n";
+    for (receives, rows) in &GIVEN {
+        let rules = AuditRules {
+            records: LogRules {
+                receives: *receives,
+                ..PAIRS.records
+            },
+            ..PAIRS
+        };
+        expect_report(&rt, rt.alloc(), log, rules, rows, Outcome::Sound);
     }
 }
 

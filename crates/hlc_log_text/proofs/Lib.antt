@@ -1,8 +1,11 @@
 pub mod LogFacts
 pub mod NameFacts
+pub mod NamedLogs
 pub mod PackedOrder
 pub mod PlainLogs
 pub mod QuestionTexts
 pub mod ReadFacts
+pub mod ApartTexts
 pub mod ReadingFacts
 pub mod CarriedItems
+pub mod StampsTold

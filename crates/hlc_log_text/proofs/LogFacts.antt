@@ -1,6 +1,7 @@
 -- One more record of a log, and its event.
 use Rattle.std.proofs.Common.{◌≡◌, ◌∙◌, ℕ, zero, suc, ◌+◌, ◌<◌, ◌≤◌, All, AllPairs, List, [], ◌∷◌, ◌++◌, Option, Some, None, ap, arith, cond, length, length-append, map, refl, sym, subst}
-use Rattle.std.specs.Prelude.{◌==◌}
+use Rattle.std.specs.Prelude.{◌==◌, slice_get}
+use Rattle.std.specs.Option.{option_and_then}
 use Rattle.std.specs.List.{filter_map}
 use Rattle.std.proofs.lemmas.List.{append-nil, length-map, map_push}
 use Rattle.std.proofs.lemmas.List.Elements.{All-head, All-push, All-tail, All-weaker, filter_map-append}
@@ -14,9 +15,9 @@ use Rattle.hlc_log_text.specs.Names.{first_mentions, with_name}
 use Rattle.hlc_log_text.specs.declared.columns.Columns.{Columns}
 use Rattle.hlc_log_text.specs.Labels.{GivesLabel, label_at}
 use Rattle.hlc_log_text.specs.LogItem.{Asks, LogItem, Names, Tells, columns_after, event_lines, events_in, if_asked, if_event, questions_in}
-use Rattle.hlc_log_text.specs.LogText.{IsLogOf, IsNamed, IsTextOf, kind_message, label_of_event, message_names, node_names, record_count, with_names}
+use Rattle.hlc_log_text.specs.LogText.{IsRawLogOf, IsNamed, IsRawTextOf, kind_message, message_names, node_names, record_count, sender_of_event, with_names}
 use Rattle.hlc_log_text.specs.PartialLog.{IsNextLine, IsPartialLog, last_of, text_of, with_message}
-use Rattle.hlc_log_text.specs.NamedEvent.{NamedEvent, without_label}
+use Rattle.hlc_log_text.specs.NamedEvent.{NamedEvent, without_asides}
 use Rattle.hlc_log_text.specs.Question.{Asked, plain_asked}
 use Rattle.hlc_log_text.specs.declared.log_text.LogText.{LogText}
 use Rattle.hlc_log_text.specs.declared.question.LogQuestion.{LogQuestion}
@@ -72,7 +73,7 @@ module _ (nodes messages : List (List ℕ)) (node : List ℕ) (m : Option (List 
   same_names e named =
       let node_is = name_of-with_name nodes node e.node.0 named.0 in
       let message_is = kind_message-more messages m e.kind named.1 in
-      λ i. record { head = (with_names nodes messages e).head; node = node_is i; message = message_is i; carried = e.carried; label = None }
+      λ i. record { head = (with_names nodes messages e).head; node = node_is i; message = message_is i; from = None; carried = e.carried; label = None }
 
   pub map-with_names : (log_events : List LogEvent) → All (IsNamed nodes messages) log_events
       → map (with_names nodes' messages') log_events ≡ map (with_names nodes messages) log_events
@@ -152,39 +153,43 @@ length-items (Tells event ∷ items) = let rest = length-items items in omega ar
 length-items (Asks asked ∷ items) = let rest = length-items items in omega arith
 length-items (Names columns ∷ items) = let rest = length-items items in omega arith
 
-pub length-log : (events : List NamedEvent) (text : LogText) → IsLogOf events text → length text.log.events ≡ length events
+pub length-log : (events : List NamedEvent) (text : LogText) → IsRawLogOf events text → length text.log.events ≡ length events
 length-log events text h =
-    sym (length-map text.log.events (with_names text.nodes (message_names events))) ∙ ap length h.told ∙ length-map events without_label
+    sym (length-map text.log.events (with_names text.nodes (message_names events))) ∙ ap length h.told ∙ length-map events without_asides
 
-pub record_count-items : (items : List LogItem) (text : LogText) → IsTextOf items text → record_count text ≤ length items
+pub record_count-items : (items : List LogItem) (text : LogText) → IsRawTextOf items text → record_count text ≤ length items
 record_count-items items text h =
     let events = length-log (events_in items) text h.log in
     let questions : length text.questions.items ≡ length (questions_in items) = sym (length-map text.questions.items plain_asked) ∙ ap length h.questions in
     let all = length-items items in
     omega arith
 
--- the labels of one more event
-label_of_event-push : (events : List NamedEvent) (r : NamedEvent) (place : ℕ)
-    → label_of_event (events ++ r ∷ []) place ≡ cond (place == length events) r.label (label_of_event events place)
-label_of_event-push [] r zero = refl
-label_of_event-push [] r (suc place) = grind arith
-label_of_event-push (e ∷ events) r zero = grind arith
-label_of_event-push (e ∷ events) r (suc place) = grind (arith, label_of_event-push events r place)
+-- what is kept aside of one more event
+module _ (f : NamedEvent → Option (List ℕ)) where
+  abbrev aside_of : List NamedEvent → ℕ → Option (List ℕ)
+  aside_of events place = option_and_then f (slice_get events place)
 
-no_label_past : (events : List NamedEvent) (place : ℕ) → label_of_event events place ≡ cond (place == length events) None (label_of_event events place)
-no_label_past [] zero = refl
-no_label_past [] (suc place) = grind arith
-no_label_past (e ∷ events) zero = grind arith
-no_label_past (e ∷ events) (suc place) = grind (arith, no_label_past events place)
+  aside_of-push : (events : List NamedEvent) (r : NamedEvent) (place : ℕ)
+      → aside_of (events ++ r ∷ []) place ≡ cond (place == length events) (f r) (aside_of events place)
+  aside_of-push [] r zero = refl
+  aside_of-push [] r (suc place) = grind arith
+  aside_of-push (e ∷ events) r zero = grind arith
+  aside_of-push (e ∷ events) r (suc place) = grind (arith, aside_of-push events r place)
 
-pub labels-more : (events : List NamedEvent) (r : NamedEvent) (old new : List (ℕ × List ℕ))
-    → ((place : ℕ) → label_at old place ≡ label_of_event events place) → GivesLabel old new (length events) r.label
-    → (place : ℕ) → label_at new place ≡ label_of_event (events ++ r ∷ []) place
-labels-more events r old new before gives place = by r.label gives ∙ sym (label_of_event-push events r place) where
-  by : (label : Option (List ℕ)) → GivesLabel old new (length events) label
-      → label_at new place ≡ cond (place == length events) label (label_of_event events place)
-  by None same = same place ∙ before place ∙ no_label_past events place
-  by (Some label) given = given place ∙ ap (λ (o : Option (List ℕ)). cond (place == length events) (Some label) o) (before place)
+  no_aside_past : (events : List NamedEvent) (place : ℕ) → aside_of events place ≡ cond (place == length events) None (aside_of events place)
+  no_aside_past [] zero = refl
+  no_aside_past [] (suc place) = grind arith
+  no_aside_past (e ∷ events) zero = grind arith
+  no_aside_past (e ∷ events) (suc place) = grind (arith, no_aside_past events place)
+
+  pub asides-more : (events : List NamedEvent) (r : NamedEvent) (old new : List (ℕ × List ℕ))
+      → ((place : ℕ) → label_at old place ≡ aside_of events place) → GivesLabel old new (length events) (f r)
+      → (place : ℕ) → label_at new place ≡ aside_of (events ++ r ∷ []) place
+  asides-more events r old new before gives place = by (f r) gives ∙ sym (aside_of-push events r place) where
+    by : (label : Option (List ℕ)) → GivesLabel old new (length events) label
+        → label_at new place ≡ cond (place == length events) label (aside_of events place)
+    by None same = same place ∙ before place ∙ no_aside_past events place
+    by (Some label) given = given place ∙ ap (λ (o : Option (List ℕ)). cond (place == length events) (Some label) o) (before place)
 
 -- the event of one more record
 pub record Continues (old new : PartialLog) (r : NamedEvent) (e : LogEvent) : Type 0 where
@@ -192,8 +197,9 @@ pub record Continues (old new : PartialLog) (r : NamedEvent) (e : LogEvent) : Ty
   pub nodes : new.nodes ≡ with_name old.nodes r.node
   pub messages : new.messages ≡ with_message old.messages r.message
   pub labels : GivesLabel old.labels new.labels (length old.log.events) r.label
+  pub senders : GivesLabel old.senders new.senders (length old.log.events) r.from
   pub questions : new.questions ≡ old.questions
-  pub told : with_names new.nodes new.messages e ≡ without_label r
+  pub told : with_names new.nodes new.messages e ≡ without_asides r
   pub named : IsNamed new.nodes new.messages e
   pub few_nodes : length new.nodes ≤ MAX_NODES
   pub line : new.line ≡ e.line
@@ -210,7 +216,7 @@ module _ (items : List LogItem) (lines : List ℕ) (old new : PartialLog) (r : N
   abbrev told : LogEvent → NamedEvent
   told = with_names new.nodes new.messages
 
-  log : IsLogOf events (text_of old)
+  log : IsRawLogOf events (text_of old)
   log = h.held.log
 
   messages_now : new.messages ≡ message_names (events ++ r ∷ [])
@@ -220,17 +226,17 @@ module _ (items : List LogItem) (lines : List ℕ) (old new : PartialLog) (r : N
   named_by : All (IsNamed old.nodes old.messages) log_events
   named_by = subst (λ (names : List (List ℕ)). All (IsNamed old.nodes names) log_events) (sym h.messages) log.named
 
-  told_by : map (with_names old.nodes old.messages) log_events ≡ map without_label events
+  told_by : map (with_names old.nodes old.messages) log_events ≡ map without_asides events
   told_by =
-      subst (λ (names : List (List ℕ)). map (with_names old.nodes names) log_events ≡ map without_label events) (sym h.messages) log.told
+      subst (λ (names : List (List ℕ)). map (with_names old.nodes names) log_events ≡ map without_asides events) (sym h.messages) log.told
 
-  told_before : map told log_events ≡ map without_label events
+  told_before : map told log_events ≡ map without_asides events
   told_before = (rw (n.nodes, n.messages) (map-with_names old.nodes old.messages r.node r.message log_events named_by)) ∙ told_by
 
-  told_all : map told new.log.events ≡ map without_label (events ++ r ∷ [])
+  told_all : map told new.log.events ≡ map without_asides (events ++ r ∷ [])
   told_all =
       ap (map told) n.pushed ∙ map_push told log_events e ∙ ap (λ (rs : List NamedEvent). rs ++ told e ∷ []) told_before
-      ∙ ap (λ (last : NamedEvent). map without_label events ++ last ∷ []) n.told ∙ sym (map_push without_label events r)
+      ∙ ap (λ (last : NamedEvent). map without_asides events ++ last ∷ []) n.told ∙ sym (map_push without_asides events r)
 
   named_before : All (IsNamed new.nodes new.messages) log_events
   named_before = rw (n.nodes, n.messages) (named-more old.nodes old.messages r.node r.message log_events named_by)
@@ -245,7 +251,7 @@ module _ (items : List LogItem) (lines : List ℕ) (old new : PartialLog) (r : N
       let pairs = all_pairs_push Rises log_events e log.lines_rise (λ k d within. let at = h.before k d within in omega arith) in
       subst (AllPairs Rises) (sym n.pushed) pairs
 
-  log-more : IsLogOf (events ++ r ∷ []) (text_of new)
+  log-more : IsRawLogOf (events ++ r ∷ []) (text_of new)
   log-more =
       let few = log.few_messages in
       let size : length new.log.events ≡ length log_events + 1 = ap length n.pushed ∙ length-append log_events (e ∷ []) in
@@ -253,7 +259,7 @@ module _ (items : List LogItem) (lines : List ℕ) (old new : PartialLog) (r : N
       rw n.messages ((length-with_message old.messages r.message).1) in
       let place = length-log events (text_of old) log in
       record {
-        told = subst (λ (names : List (List ℕ)). map (with_names new.nodes names) new.log.events ≡ map without_label (events ++ r ∷ [])) messages_now
+        told = subst (λ (names : List (List ℕ)). map (with_names new.nodes names) new.log.events ≡ map without_asides (events ++ r ∷ [])) messages_now
             told_all;
         named = subst (λ (names : List (List ℕ)). All (IsNamed new.nodes names) new.log.events) messages_now
             (all_of (IsNamed new.nodes new.messages) named_before n.named);
@@ -261,7 +267,7 @@ module _ (items : List LogItem) (lines : List ℕ) (old new : PartialLog) (r : N
         messages = ap length messages_now;
         few_nodes = n.few_nodes;
         few_messages = omega arith;
-        labels = labels-more events r old.labels new.labels log.labels
+        labels = asides-more (λ r. r.label) events r old.labels new.labels log.labels
             (subst (λ (place : ℕ). GivesLabel old.labels new.labels place r.label) place n.labels);
         lines_rise = rising;
       }
@@ -281,7 +287,7 @@ module _ (items : List LogItem) (lines : List ℕ) (old new : PartialLog) (r : N
       let size = length-append items (Tells r ∷ []) in
       record {
         held = record {
-          log = subst (λ (events : List NamedEvent). IsLogOf events (text_of new)) (sym (events_in-tells items r)) log-more;
+          log = subst (λ (events : List NamedEvent). IsRawLogOf events (text_of new)) (sym (events_in-tells items r)) log-more;
           questions = rw n.questions (h.held.questions ∙ sym (questions_in-tells items r));
         };
         messages = messages_now ∙ ap message_names (sym (events_in-tells items r));
@@ -293,6 +299,10 @@ module _ (items : List LogItem) (lines : List ℕ) (old new : PartialLog) (r : N
         low = omega arith;
         columns = n.columns ∙ h.columns ∙ sym (columns_after-tells items r);
         last = omega arith;
+        senders = λ place.
+            asides-more (λ r. r.from) events r old.senders new.senders h.senders
+            (subst (λ (place : ℕ). GivesLabel old.senders new.senders place r.from) (length-log events (text_of old) log) n.senders) place
+            ∙ ap (λ (events : List NamedEvent). sender_of_event events place) (sym (events_in-tells items r));
       }
 
 -- one more question, and nothing else
@@ -301,6 +311,7 @@ pub record AddsQuestion (old new : PartialLog) (question : LogQuestion) : Type 0
   pub nodes : new.nodes ≡ old.nodes
   pub messages : new.messages ≡ old.messages
   pub labels : new.labels ≡ old.labels
+  pub senders : new.senders ≡ old.senders
   pub questions : new.questions.items ≡ old.questions.items ++ question ∷ []
   pub next : IsNextLine old new.line
   pub columns : new.columns ≡ old.columns
@@ -323,7 +334,7 @@ module _ (items : List LogItem) (lines : List ℕ) (old new : PartialLog) (quest
   is_other =
       λ i. record { log = n.log i; nodes = n.nodes i; messages = length (n.messages i); labels = n.labels i; questions = new.questions }
 
-  log-other : IsLogOf (events_in items) other
+  log-other : IsRawLogOf (events_in items) other
   log-other = record {
     told = h.held.log.told;
     named = h.held.log.named;
@@ -357,8 +368,8 @@ module _ (items : List LogItem) (lines : List ℕ) (old new : PartialLog) (quest
       let size = length-append items (Asks asked ∷ []) in
       record {
         held = record {
-          log = subst (λ (text : LogText). IsLogOf (events_in (items ++ Asks asked ∷ [])) text) (sym is_other)
-              (subst (λ (events : List NamedEvent). IsLogOf events other) (sym (events_in-asks items asked)) log-other);
+          log = subst (λ (text : LogText). IsRawLogOf (events_in (items ++ Asks asked ∷ [])) text) (sym is_other)
+              (subst (λ (events : List NamedEvent). IsRawLogOf events other) (sym (events_in-asks items asked)) log-other);
           questions = asked_all;
         };
         messages = n.messages ∙ h.messages ∙ ap message_names (sym (events_in-asks items asked));
@@ -369,6 +380,9 @@ module _ (items : List LogItem) (lines : List ℕ) (old new : PartialLog) (quest
         low = omega arith;
         columns = n.columns ∙ h.columns ∙ sym (columns_after-asks items asked);
         last = omega arith;
+        senders = λ place.
+            ap (λ senders. label_at senders place) n.senders ∙ h.senders place
+            ∙ ap (λ (events : List NamedEvent). sender_of_event events place) (sym (events_in-asks items asked));
       }
 
 -- a header, and nothing else
@@ -397,6 +411,7 @@ module _ (lines : List ℕ) (old : PartialLog) (columns : Columns) (line : ℕ) 
         low = omega arith;
         columns = refl;
         last = omega arith;
+        senders = h.senders;
       }
 
 -- named events are numbered

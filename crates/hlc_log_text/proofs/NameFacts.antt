@@ -41,7 +41,7 @@ pub with_new_name : (names : List (List ℕ)) (name : List ℕ) → list_any (by
 with_new_name names name new = rw new
 
 -- a name is among others that aren't this one, or it is this one
-known_but_for : (name other : List ℕ) (names : List (List ℕ))
+pub known_but_for : (name other : List ℕ) (names : List (List ℕ))
     → list_any (bytes_eq name) (filter (λ m. not (bytes_eq other m)) names) ≡ (not (bytes_eq other name) && list_any (bytes_eq name) names)
 known_but_for name other [] = grind arith
 known_but_for name other (first ∷ names) =

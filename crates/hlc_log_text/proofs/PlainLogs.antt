@@ -3,8 +3,8 @@ use Rattle.std.proofs.Common.{◌≡◌, ◌∙◌, Bool, true, false, List, [],
 use Rattle.std.specs.Prelude.{codes}
 use Rattle.std.specs.Cmp.Lexicographic.{bytes_decides}
 use Rattle.hlc_csv.specs.Rows.{Fields, field_of}
-use Rattle.hlc_log_text.specs.Columns.{arranged_by, begins_as_header, carried_by, columns_of}
-use Rattle.hlc_log_text.specs.LogItem.{Asks, LogItem, Names, Tells, asks, carry, columns_after, header_item, is_header, item_after, item_after_word, item_of, tells}
+use Rattle.hlc_log_text.specs.Columns.{arranged_by, begins_as_header, carried_by, columns_of, from_by}
+use Rattle.hlc_log_text.specs.LogItem.{Asks, LogItem, Names, Tells, asks, carry, columns_after, header_item, is_header, item_after, item_after_word, item_from, item_of, tells}
 use Rattle.hlc_log_text.specs.LogWord.{log_word_of}
 use Rattle.hlc_log_text.specs.NamedEvent.{NamedEvent, named_event_of}
 use Rattle.hlc_log_text.specs.Question.{Asked, asked_after_word, asked_of, question_word_of}
@@ -25,9 +25,9 @@ asks_names : (r : Result Asked BadLog) (columns : Columns) → asks r ≡ Ok (Na
 asks_names (Ok asked) columns is = cc
 asks_names (Err why) columns is = cc
 
-placed_names : (rules : LogRules) (w : Option LogWord) (fields : Fields) (columns : Columns) → item_after_word rules w fields ≡ Ok (Names columns) → ⊥
+placed_names : (rules : LogRules) (w : Option LogWord) (fields : Fields) (columns : Columns) → item_after_word rules None w fields ≡ Ok (Names columns) → ⊥
 placed_names rules None fields columns is = asks_names (asked_of fields) columns is
-placed_names rules (Some w) fields columns is = tells_names (named_event_of rules w fields) columns is
+placed_names rules (Some w) fields columns is = tells_names (named_event_of rules w None fields) columns is
 
 -- a record that says something by the places of its fields is no header
 no_header : (rules : LogRules) (fields : Fields) (item : LogItem) → item_of rules fields ≡ Ok item → begins_as_header fields ≡ false
@@ -36,7 +36,7 @@ no_header rules fields item is = by_test (begins_as_header fields) refl where
   by_test false has = refl
   by_test true has =
       let kind : field_of fields 0 ≡ codes "kind" = (bytes_decides (field_of fields 0) (codes "kind")).0 has in
-      let asked : asks (asked_of fields) ≡ Ok item = subst (λ (w : Option LogWord). item_after_word rules w fields ≡ Ok item) (ap log_word_of kind) is in
+      let asked : asks (asked_of fields) ≡ Ok item = subst (λ (w : Option LogWord). item_after_word rules None w fields ≡ Ok item) (ap log_word_of kind) is in
       let none : asks (asked_after_word None fields) ≡ Ok item =
       subst (λ (w : Option QuestionWord). asks (asked_after_word w fields) ≡ Ok item) (ap question_word_of kind) asked in
       absurd (cc)
@@ -48,7 +48,8 @@ placed_after rules before fields item none is =
     ap (λ (test : Bool). cond test (header_item rules.form (columns_of fields)) (by_columns (columns_after before))) (plain before)
     ∙ ap by_columns none ∙ is where
       by_columns : Option Columns → Result LogItem BadLog
-      by_columns columns = carry (carried_by rules.form columns fields) (item_of rules (arranged_by rules.form columns fields))
+      by_columns columns =
+          carry (carried_by rules.form columns fields) (item_from rules (from_by columns fields) (arranged_by rules.form columns fields))
 
       plain : (before : List LogItem) → is_header before fields ≡ false
       plain [] = no_header rules fields item is

@@ -17,8 +17,8 @@ use Rattle.hlc_log_text.specs.declared.bad_log.BadLine.{BadLine}
 use Rattle.hlc_log_text.specs.declared.bad_log.BadLog.{BadLog}
 use Rattle.hlc_log_text.specs.declared.partial_log.PartialLog.{PartialLog}
 use Rattle.hlc_log_text.specs.LogItem.{LogItem, event_lines, events_in, item_after}
-use Rattle.hlc_log_text.specs.LogText.{IsLogOf, node_names}
-use Rattle.hlc_log_text.specs.ReadLog.{AreOnLines, HasTooMany, IsBadNext, IsOnLine, IsReadUpToBad, IsReadWhole, SayAfter, SayItems}
+use Rattle.hlc_log_text.specs.LogText.{IsRawLogOf, node_names}
+use Rattle.hlc_log_text.specs.ReadLog.{AreOnLines, HasTooMany, IsBadNext, IsOnLine, IsReadInto, IsReadUpToBad, SayAfter, SayItems}
 use Rattle.hlc_log_text.specs.PartialLog.{HasPlace, IsBadFound, IsPartialLog, Takes, last_of, text_of, told_line}
 use Rattle.hlc_log_text.proofs.LogFacts.{record_count-items}
 
@@ -108,7 +108,7 @@ module _ {R : Type 0} (rules : LogRules) (rem : R → Option (List ℕ)) (initia
   }
 
   module _ (input : RecordReader R) (reading : PartialLog) (count : ℕ) (h : LogSoFar rules rem initial input reading count) where
-    log : IsLogOf (events_in h.items) (text_of reading)
+    log : IsRawLogOf (events_in h.items) (text_of reading)
     log = h.reading.held.log
 
     few_nodes : length (node_names (events_in h.items)) ≤ MAX_NODES
@@ -129,20 +129,21 @@ module _ {R : Type 0} (rules : LogRules) (rem : R → Option (List ℕ)) (initia
         }
 
     -- there is no other
-    pub is_read_whole : (next : RecordReader R) (fields : Fields) (most : ℕ) (bytes : Option (List ℕ)) → count ≤ most
-        → HasReadTo rem initial bytes [] [] → ReadsRecord rem input next fields None → IsReadWhole rules most bytes (text_of reading)
-    is_read_whole next fields most bytes within start read =
+    pub is_read_into : (next : RecordReader R) (fields : Fields) (most : ℕ) (bytes : Option (List ℕ)) → count ≤ most
+        → HasReadTo rem initial bytes [] [] → ReadsRecord rem input next fields None → IsReadInto rules most bytes reading
+    is_read_into next fields most bytes within start read =
         let all : AreAll bytes h.records h.counted = read bytes h.records h.counted (h.read bytes start) in
         let one_each = h.one_each in
         record {
           records = h.records;
           items = h.items;
+          lines = rising 0 h.counted;
           all = all.all;
           only = are_all-only bytes h.records all.all;
           closed = all.closed;
           within = omega arith;
           make = h.make;
-          held = h.reading.held;
+          held = h.reading;
           on_lines = are_on_lines bytes h.items h.counted reading.log.events all.on_lines h.reading.on_lines;
         }
 

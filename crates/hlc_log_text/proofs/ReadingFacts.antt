@@ -1,6 +1,6 @@
 -- The readings of a log's events are such as its records may write, and the stamps of restarts leave room above them.
 use Rattle.std.proofs.Common.{◌≡◌, ◌≤◌, ℕ, Bool, true, false, List, [], ◌∷◌, ◌++◌, Option, Some, None, Ok, Err, Result, ap, arith, cond, length, map, refl, subst, sym}
-use Rattle.std.specs.Prelude.{◌==◌, ◌&&◌, All, IfErr, IfOk, IfSome, MatchResult, nat_le, nat_lt, not, option_map}
+use Rattle.std.specs.Prelude.{◌==◌, ◌&&◌, All, IfErr, IfOk, IfSome, MatchResult, is_some, nat_le, nat_lt, not, option_map}
 use Rattle.std.specs.Option.{option_and_then}
 use Rattle.std.proofs.lemmas.Bool.{and_parts, leb-true, ltb-true}
 use Rattle.std.proofs.lemmas.List.Elements.{All-cons, All-head, All-map, All-nil, All-tail, All-weaker}
@@ -9,7 +9,7 @@ use Rattle.hlc_stamp.specs.declared.stamp.Stamp.{Stamp}
 use Rattle.hlc_stamp.specs.Order.{Pair}
 use Rattle.hlc_csv.specs.Number.{number_of}
 use Rattle.hlc_csv.specs.Rows.{Fields, field_of}
-use Rattle.hlc_log_text.specs.StampForms.{fields_stamp, form_stamp}
+use Rattle.hlc_log_text.specs.StampForms.{fields_stamp}
 use Rattle.hlc_log_text.specs.declared.log_rules.LogRules.{LogRules}
 use Rattle.hlc_log_text.specs.declared.stamp_form.StampForm.{StampForm}
 use Rattle.hlc_log.specs.declared.log_event.LogEvent.{LogEvent}
@@ -17,7 +17,7 @@ use Rattle.hlc_log.specs.declared.log_event.LogKind.{LogKind}
 use Rattle.hlc_log.specs.declared.log_event.LogKind.TheVariants.{Local, Outside, Receive, Restart, Send}
 use Rattle.hlc_causality.specs.declared.event_rule.TheConstants.{MAX_FLOOR_C}
 use Rattle.hlc_log.specs.Events.{IsInRange, IsNumbered, IsSmallCarried}
-use Rattle.hlc_log_text.specs.Columns.{arranged_by, carried_after_word, carried_by, carried_first, carried_for, carried_second, columns_of, if_small, is_complete}
+use Rattle.hlc_log_text.specs.Columns.{arranged_by, carried_after_word, carried_by, carried_first, carried_for, carried_second, columns_of, from_by, from_in, if_small, is_complete, names_sender}
 use Rattle.hlc_log_text.specs.declared.columns.Columns.{Columns}
 use Rattle.hlc_log_text.specs.declared.bad_log.BadLog.{BadLog}
 use Rattle.hlc_log_text.specs.declared.bad_log.BadLog.TheVariants as bad
@@ -26,12 +26,13 @@ use Rattle.hlc_log_text.specs.declared.log_text.LogText.{LogText}
 use Rattle.hlc_log_text.specs.declared.log_word.LogWord.{LogWord}
 use Rattle.hlc_log_text.specs.declared.log_word.LogWord.TheVariants as word
 use Rattle.hlc_log_text.specs.declared.record_head.RecordHead.{RecordHead}
-use Rattle.hlc_log_text.specs.LogItem.{Asks, LogItem, Names, Tells, asks, carry, columns_after, events_in, header_item, is_header, item_after, item_after_word, item_of, tells}
-use Rattle.hlc_log_text.specs.LogText.{kind_word, message_names, with_names}
+use Rattle.hlc_log_text.specs.LogItem.{Asks, LogItem, Names, Tells, asks, carry, columns_after, events_in, header_item, is_header, item_after, item_after_word, item_from, tells}
+use Rattle.hlc_log_text.specs.LogText.{apart_count, kind_word, message_names, senders_of, unnamed_in, with_names}
 use Rattle.hlc_log_text.specs.LogWord.{has_fields_of, log_word_of}
-use Rattle.hlc_log_text.specs.NamedEvent.{NamedEvent, assumed_reading, carrying, has_good_names, head_by, head_from, head_of, head_or_name, head_with, if_reading, label_of, message_place, named_event_from, named_event_of, reading_of, reading_with, restart_head, told_by, tolerated, without_label}
+use Rattle.hlc_log_text.specs.NamedEvent.{NamedEvent, assumed_reading, carrying, has_good_names, head_by, head_from, head_of, head_or_name, head_with, if_reading, label_of, message_place, named_event_from, named_event_of, reading_of, reading_with, restart_head, stamp_or_zero, stamp_told, told_by, tolerated, without_asides}
 use Rattle.hlc_log_text.specs.Question.{Asked, asked_of}
 use Rattle.hlc_log_text.specs.ReadLog.{ExplainsFault, IsReadWhole, SayAfter, SayItems}
+use Rattle.hlc_log_text.proofs.ApartTexts.{in_range_apart_if, numbered_apart_if}
 use Rattle.hlc_log_text.proofs.LogFacts.{numbered_of}
 
 -- a number that a clock may read
@@ -69,19 +70,23 @@ with_is_reading tolerance field stamp reading is = by_length (length field == 0)
   by_length true is = let same : assumed_reading stamp ≡ reading = cc in subst IsReading same (assumed_is_reading stamp)
   by_length false is = by_told (reading_of field) refl is
 
--- a stamp of a restart leaves room above it
-HasRoom : LogWord → Stamp → Type 0
-HasRoom word.Local stamp = Unit {0}
-HasRoom word.Send stamp = Unit {0}
-HasRoom word.Receive stamp = Unit {0}
-HasRoom word.Restart stamp = stamp.c ≤ MAX_FLOOR_C
+-- the stamp of a restart leaves room above it, and is told
+HasRoom : LogWord → Stamp → (has_stamp : Bool) → Type 0
+HasRoom word.Local stamp has_stamp = Unit {0}
+HasRoom word.Send stamp has_stamp = Unit {0}
+HasRoom word.Receive stamp has_stamp = Unit {0}
+HasRoom word.Restart stamp has_stamp = (stamp.c ≤ MAX_FLOOR_C) × (has_stamp ≡ true)
 
 abbrev IsHeadInRange : RecordHead → Type 0
-IsHeadInRange head = IsReading head.reading × HasRoom head.word head.stamp
+IsHeadInRange head = IsReading head.reading × HasRoom head.word head.stamp head.has_stamp
 
 -- what a record says, part by part
 abbrev told_restart : Stamp → RecordHead
-told_restart stamp = record { word = word.Restart; reading = assumed_reading stamp; has_reading = false; stamp = stamp }
+told_restart stamp = record { word = word.Restart; reading = assumed_reading stamp; has_reading = false; stamp = stamp; has_stamp = true }
+
+abbrev told_head : LogWord → (reading : ℕ) → (has_reading : Bool) → Option Stamp → RecordHead
+told_head w reading has_reading told =
+    record { word = w; reading = reading; has_reading = has_reading; stamp = stamp_or_zero told; has_stamp = is_some told }
 
 restart_in_range : (stamp : Stamp) (head : RecordHead) → restart_head stamp ≡ Some head → IsHeadInRange head
 unfolding HasRoom
@@ -89,52 +94,52 @@ restart_in_range stamp head is = by_fits (nat_le stamp.c MAX_FLOOR_C) refl is wh
   by_fits : (test : Bool) → nat_le stamp.c MAX_FLOOR_C ≡ test
       → (let o : Option RecordHead = cond test (Some (told_restart stamp)) None in o) ≡ Some head → IsHeadInRange head
   by_fits false fits is = absurd (cc)
-  by_fits true fits is = let same : told_restart stamp ≡ head = cc in subst IsHeadInRange same (assumed_is_reading stamp, leb-true stamp.c MAX_FLOOR_C fits)
+  by_fits true fits is = let same : told_restart stamp ≡ head = cc in subst IsHeadInRange same (assumed_is_reading stamp, (leb-true stamp.c MAX_FLOOR_C fits, refl))
 
-head_by_in_range : (w : LogWord) (reading : ℕ) (has_reading : Bool) (stamp : Stamp) (head : RecordHead) → IsReading reading
-    → head_by w reading has_reading stamp ≡ Some head → IsHeadInRange head
+head_by_in_range : (w : LogWord) (reading : ℕ) (has_reading : Bool) (told : Option Stamp) (head : RecordHead) → IsReading reading
+    → head_by w reading has_reading told ≡ Some head → IsHeadInRange head
 unfolding HasRoom
-head_by_in_range word.Restart reading has_reading stamp head in_range is = restart_in_range stamp head is
-head_by_in_range word.Local reading has_reading stamp head in_range is =
-    let whole : RecordHead = record { word = word.Local; reading = reading; has_reading = has_reading; stamp = stamp } in
+head_by_in_range word.Restart reading has_reading told head in_range is = restart_in_range (stamp_or_zero told) head is
+head_by_in_range word.Local reading has_reading told head in_range is =
+    let whole : RecordHead = told_head word.Local reading has_reading told in
     let same : whole ≡ head = cc in subst IsHeadInRange same (in_range, tt)
-head_by_in_range word.Send reading has_reading stamp head in_range is =
-    let whole : RecordHead = record { word = word.Send; reading = reading; has_reading = has_reading; stamp = stamp } in
+head_by_in_range word.Send reading has_reading told head in_range is =
+    let whole : RecordHead = told_head word.Send reading has_reading told in
     let same : whole ≡ head = cc in subst IsHeadInRange same (in_range, tt)
-head_by_in_range word.Receive reading has_reading stamp head in_range is =
-    let whole : RecordHead = record { word = word.Receive; reading = reading; has_reading = has_reading; stamp = stamp } in
+head_by_in_range word.Receive reading has_reading told head in_range is =
+    let whole : RecordHead = told_head word.Receive reading has_reading told in
     let same : whole ≡ head = cc in subst IsHeadInRange same (in_range, tt)
 
-head_from_in_range : (tolerance : ℕ) (w : LogWord) (field : List ℕ) (stamp : Option Stamp) (head : RecordHead)
-    → head_from tolerance w field stamp ≡ Some head → IsHeadInRange head
+head_from_in_range : (tolerance : ℕ) (w : LogWord) (field : List ℕ) (told : Option (Option Stamp)) (head : RecordHead)
+    → head_from tolerance w field told ≡ Some head → IsHeadInRange head
 head_from_in_range tolerance w field None head is = absurd (cc)
-head_from_in_range tolerance w field (Some stamp) head is = by_reading (reading_with tolerance field stamp) refl is where
-  by_reading : (reading : Option ℕ) → reading_with tolerance field stamp ≡ reading
-      → option_and_then (λ (reading : ℕ). head_by w reading (not (length field == 0)) stamp) reading ≡ Some head → IsHeadInRange head
+head_from_in_range tolerance w field (Some told) head is = by_reading (reading_with tolerance field (stamp_or_zero told)) refl is where
+  by_reading : (reading : Option ℕ) → reading_with tolerance field (stamp_or_zero told) ≡ reading
+      → option_and_then (λ (reading : ℕ). head_by w reading (not (length field == 0)) told) reading ≡ Some head → IsHeadInRange head
   by_reading None found is = absurd (cc)
   by_reading (Some reading) found is =
-      head_by_in_range w reading (not (length field == 0)) stamp head (with_is_reading tolerance field stamp reading found) is
+      head_by_in_range w reading (not (length field == 0)) told head (with_is_reading tolerance field (stamp_or_zero told) reading found) is
 
 head_is_there : (o : Option RecordHead) (good : Bool) (head : RecordHead) → head_or_name o good ≡ Ok head → o ≡ Some head
 head_is_there None good head is = absurd (cc)
 head_is_there (Some h) false head is = absurd (cc)
 head_is_there (Some h) true head is = let same : h ≡ head = cc in ap (λ (h : RecordHead). (let o : Option RecordHead = Some h in o)) same
 
-head_is_in_range : (rules : LogRules) (w : LogWord) (fields : Fields) (head : RecordHead) → head_of rules w fields ≡ Ok head → IsHeadInRange head
-head_is_in_range rules w fields head is = by_count (has_fields_of rules.form w (length fields)) is where
+head_is_in_range : (rules : LogRules) (w : LogWord) (from : Option (List ℕ)) (fields : Fields) (head : RecordHead) → head_of rules w from fields ≡ Ok head → IsHeadInRange head
+head_is_in_range rules w from fields head is = by_count (has_fields_of rules.form w (length fields)) is where
   by_count : (test : Bool)
-      → (let r : Result RecordHead BadLog = cond test (head_or_name (head_with rules w fields) (has_good_names rules.form w fields)) (Err bad.Fields) in r) ≡ Ok head
+      → (let r : Result RecordHead BadLog = cond test (head_or_name (head_with rules w fields) (has_good_names rules.form w from fields)) (Err bad.Fields) in r) ≡ Ok head
       → IsHeadInRange head
   by_count false is = absurd (cc)
   by_count true is =
-      let there = head_is_there (head_with rules w fields) (has_good_names rules.form w fields) head is in
-      head_from_in_range rules.tolerance w (field_of fields 2) (form_stamp rules.form fields 3) head there
+      let there = head_is_there (head_with rules w fields) (has_good_names rules.form w from fields) head is in
+      head_from_in_range rules.tolerance w (field_of fields 2) (stamp_told rules.form w fields) head there
 
-event_head : (form : StampForm) (w : LogWord) (fields : Fields) (head : Result RecordHead BadLog) (event : NamedEvent)
-    → named_event_from form w fields head ≡ Ok event → (head ≡ Ok event.head) × (event.carried ≡ None)
-event_head form w fields (Err why) event is = absurd (cc)
-event_head form w fields (Ok head) event is =
-    let made : NamedEvent = told_by head (field_of fields 1) (field_of fields (message_place form)) (label_of form w fields) in
+event_head : (form : StampForm) (w : LogWord) (from : Option (List ℕ)) (fields : Fields) (head : Result RecordHead BadLog) (event : NamedEvent)
+    → named_event_from form w from fields head ≡ Ok event → (head ≡ Ok event.head) × (event.carried ≡ None)
+event_head form w from fields (Err why) event is = absurd (cc)
+event_head form w from fields (Ok head) event is =
+    let made : NamedEvent = told_by head (field_of fields 1) (field_of fields (message_place form)) from (label_of form w fields) in
     let same : made ≡ event = cc in (
       ap (λ (e : NamedEvent). (let r : Result RecordHead BadLog = Ok e.head in r)) same,
       ap (λ (e : NamedEvent). e.carried) (sym same),
@@ -156,13 +161,13 @@ asks_no_event : (r : Result Asked BadLog) (event : NamedEvent) → asks r ≡ Ok
 asks_no_event (Err why) event is = cc
 asks_no_event (Ok asked) event is = cc
 
-event_in_range : (rules : LogRules) (word : Option LogWord) (fields : Fields) (event : NamedEvent) → item_after_word rules word fields ≡ Ok (Tells event)
+event_in_range : (rules : LogRules) (from : Option (List ℕ)) (word : Option LogWord) (fields : Fields) (event : NamedEvent) → item_after_word rules from word fields ≡ Ok (Tells event)
     → IsPlainInRange event
-event_in_range rules None fields event is = absurd (asks_no_event (asked_of fields) event is)
-event_in_range rules (Some w) fields event is =
-    let told = tells_event (named_event_of rules w fields) event is in
-    let made = event_head rules.form w fields (head_of rules w fields) event told in
-    (head_is_in_range rules w fields event.head made.0, made.1)
+event_in_range rules from None fields event is = absurd (asks_no_event (asked_of fields) event is)
+event_in_range rules from (Some w) fields event is =
+    let told = tells_event (named_event_of rules w from fields) event is in
+    let made = event_head rules.form w from fields (head_of rules w from fields) event told in
+    (head_is_in_range rules w from fields event.head made.0, made.1)
 
 -- what is told of a carried stamp leaves room above it
 abbrev IsSmallTold : Option (Option Pair) → Type 0
@@ -181,10 +186,13 @@ carried_for_small form columns word.Send fields = tt
 carried_for_small form columns word.Restart fields = tt
 carried_for_small form columns word.Receive fields =
     by_test ((length (carried_first form columns fields) == 0) && (length (carried_second form columns fields) == 0))
+    (names_sender (from_in columns fields) (field_of fields columns.message))
     (fields_stamp form (carried_first form columns fields) (carried_second form columns fields)) where
-      by_test : (test : Bool) (stamp : Option Stamp) → IsSmallTold (let o : Option (Option Stamp) = cond test (Some None) (if_small stamp) in o)
-      by_test true stamp = tt
-      by_test false stamp = if_small_told stamp
+      by_test : (test is_needed : Bool) (stamp : Option Stamp)
+          → IsSmallTold (let o : Option (Option Stamp) = cond test (cond is_needed None (Some None)) (if_small stamp) in o)
+      by_test true true stamp = tt
+      by_test true false stamp = tt
+      by_test false is_needed stamp = if_small_told stamp
 
 carried_by_small : (form : StampForm) (columns : Option Columns) (fields : Fields) → IsSmallTold (carried_by form columns fields)
 carried_by_small form None fields = tt
@@ -218,13 +226,14 @@ header_no_event form columns event is = by_test (is_complete form columns) is wh
 after_in_range : (rules : LogRules) (before : List LogItem) (fields : Fields) (event : NamedEvent) → item_after rules before fields ≡ Ok (Tells event)
     → IsNamedInRange event
 after_in_range rules before fields event is =
-    by_header (is_header before fields) (arranged_by rules.form (columns_after before) fields) (carried_by rules.form (columns_after before) fields)
+    by_header (is_header before fields) (from_by (columns_after before) fields) (arranged_by rules.form (columns_after before) fields)
+    (carried_by rules.form (columns_after before) fields)
     (carried_by_small rules.form (columns_after before) fields) is where
-      by_header : (test : Bool) (placed : Fields) (carried : Option (Option Pair)) → IsSmallTold carried
-          → cond test (header_item rules.form (columns_of fields)) (carry carried (item_of rules placed)) ≡ Ok (Tells event) → IsNamedInRange event
-      by_header true placed carried small is = absurd (header_no_event rules.form (columns_of fields) event is)
-      by_header false placed carried small is =
-          carry_in_range carried (item_of rules placed) small (event_in_range rules (log_word_of (field_of placed 0)) placed) event is
+      by_header : (test : Bool) (from : Option (List ℕ)) (placed : Fields) (carried : Option (Option Pair)) → IsSmallTold carried
+          → cond test (header_item rules.form (columns_of fields)) (carry carried (item_from rules from placed)) ≡ Ok (Tells event) → IsNamedInRange event
+      by_header true from placed carried small is = absurd (header_no_event rules.form (columns_of fields) event is)
+      by_header false from placed carried small is =
+          carry_in_range carried (item_from rules from placed) small (event_in_range rules from (log_word_of (field_of placed 0)) placed) event is
 
 -- so have the events among what records say
 all_after : (rules : LogRules) (before : List LogItem) (records : List Fields) (items : List LogItem) → SayAfter rules before records items
@@ -247,32 +256,39 @@ each_from_map P f [] all = All-nil (λ x. P (f x))
 each_from_map P f (x ∷ xs) all =
     All-cons (λ x. P (f x)) x xs (All-head P (f x) (map f xs) all) (each_from_map P f xs (All-tail P (f x) (map f xs) all))
 
--- the stamp of a restart has room above it
-room_above : (kind : LogKind) (stamp : Pair) → HasRoom (kind_word kind) stamp → kind ≡ Restart → stamp.c ≤ MAX_FLOOR_C
+-- the stamp of a restart has room above it, and is told
+room_above : (kind : LogKind) (stamp : Pair) (has_stamp : Bool) → HasRoom (kind_word kind) stamp has_stamp → kind ≡ Restart
+    → (stamp.c ≤ MAX_FLOOR_C) × (has_stamp ≡ true)
 unfolding HasRoom
-room_above Local stamp room is = absurd (cc)
-room_above (Send m) stamp room is = absurd (cc)
-room_above (Receive m) stamp room is = absurd (cc)
-room_above Restart stamp room is = room
-room_above Outside stamp room is = absurd (cc)
+room_above Local stamp has_stamp room is = absurd (cc)
+room_above (Send m) stamp has_stamp room is = absurd (cc)
+room_above (Receive m) stamp has_stamp room is = absurd (cc)
+room_above Restart stamp has_stamp room is = room
+room_above Outside stamp has_stamp room is = absurd (cc)
 
 -- the events of a log that was read whole are in range
 pub in_range_of_whole : (rules : LogRules) (most : ℕ) (bytes : Option (List ℕ)) (text : LogText) → IsReadWhole rules most bytes text
     → All IsInRange text.log.events
 unfolding IsNamedInRange
 in_range_of_whole rules most bytes text whole =
+    let log = whole.held.log in
+    let names = message_names (events_in whole.items) in
     let in_range = all_in_range rules whole.records whole.items whole.make in
-    let unlabelled = All-map IsNamedInRange without_label (events_in whole.items) in_range in
-    let named = with_names text.nodes (message_names (events_in whole.items)) in
-    let told = subst (All IsNamedInRange) (sym whole.held.log.told) unlabelled in
-    let each = each_from_map IsNamedInRange named text.log.events told in
+    let plain = All-map IsNamedInRange without_asides (events_in whole.items) in_range in
+    let named = with_names text.nodes names in
+    let told = subst (All IsNamedInRange) (sym log.told) plain in
+    let each = each_from_map IsNamedInRange named log.raw told in
+    let raw : All IsInRange log.raw =
     All-weaker (λ (e : LogEvent). IsNamedInRange (named e)) IsInRange
     (λ e in_range. record {
       positive = in_range.0.0.0;
       in_range = in_range.0.0.1;
-      floor = room_above e.kind e.stamp in_range.0.1;
+      floor = λ is. (room_above e.kind e.stamp e.has_stamp in_range.0.1 is).0;
       carried = in_range.1;
-    }) text.log.events each
+      told = λ is. (room_above e.kind e.stamp e.has_stamp in_range.0.1 is).1;
+    }) log.raw each in
+    subst (All IsInRange) (sym log.apart)
+    (in_range_apart_if (length names) (senders_of text.nodes (events_in whole.items)) log.raw (unnamed_in names) raw)
 
 -- what a log was read to, or why none was: it is so of whichever bytes the reader began with, so of these
 module _ (rules : LogRules) (most : ℕ) (bytes : Option (List ℕ)) (IsBegun : Option (List ℕ) → Type 0) (begun : IsBegun bytes) where
@@ -287,8 +303,12 @@ module _ (rules : LogRules) (most : ℕ) (bytes : Option (List ℕ)) (IsBegun : 
       → IfOk read (λ text. All (IsNumbered text.messages) text.log.events)
   numbered_of_read (Ok text) reads =
       let log = (reads bytes begun).held.log in
+      let events = events_in (reads bytes begun).items in
+      let names = message_names events in
+      let raw = numbered_of text.nodes names log.raw log.few_nodes log.named in
       subst (λ (messages : ℕ). All (IsNumbered messages) text.log.events) (sym log.messages)
-      (numbered_of text.nodes (message_names (events_in (reads bytes begun).items)) text.log.events log.few_nodes log.named)
+      (subst (All (IsNumbered (apart_count (unnamed_in names) (length names) (length log.raw)))) (sym log.apart)
+      (numbered_apart_if (length names) (senders_of text.nodes events) log.raw (unnamed_in names) raw))
   numbered_of_read (Err fault) reads = tt
 
   pub in_range_of_read : (read : Result LogText LogTextFault) → ReadsOrTells read → IfOk read (λ text. All IsInRange text.log.events)

@@ -1,5 +1,5 @@
 -- The columns of a log with a header.
-use Rattle.std.specs.Prelude.{◌==◌, ◌&&◌, ℕ, Bool, List, [], ◌∷◌, ◌++◌, Option, Some, None, bytes_eq, codes, if◌then◌else◌, length, nat_lt}
+use Rattle.std.specs.Prelude.{◌==◌, ◌&&◌, ℕ, Bool, false, List, [], ◌∷◌, ◌++◌, Option, Some, None, bytes_eq, codes, if◌then◌else◌, length, nat_lt, not}
 use Rattle.std.specs.List.{position_or_len}
 use Rattle.hlc_causality.specs.declared.event_rule.TheConstants.{MAX_FLOOR_C}
 use Rattle.hlc_stamp.specs.declared.stamp.Stamp.{Stamp}
@@ -33,6 +33,7 @@ columns_of header = record {
   carried_l = column_in header (codes "carried_l");
   carried_c = column_in header (codes "carried_c");
   message = column_in header (codes "message");
+  from = column_in header (codes "from");
   label = column_in header (codes "label");
 }
 
@@ -105,23 +106,38 @@ abbrev pub if_small : Option Stamp → Option (Option Stamp)
 if_small None = None
 if_small (Some stamp) = if nat_lt stamp.c MAX_FLOOR_C then Some (Some stamp) else None
 
--- what two fields tell: nothing if they are empty
-abbrev pub carried_by_fields : StampForm → (first second : List ℕ) → Option (Option Stamp)
-carried_by_fields form first second =
-    if (length first == 0) && (length second == 0) then Some None else if_small (fields_stamp form first second)
+-- what two fields tell: nothing if they are empty, but a receive that names its sender has to tell it
+abbrev pub carried_by_fields : StampForm → (is_needed : Bool) → (first second : List ℕ) → Option (Option Stamp)
+carried_by_fields form is_needed first second =
+    if (length first == 0) && (length second == 0) then if is_needed then None else Some None else if_small (fields_stamp form first second)
+
+-- the field of the column `from`, if there is such a column
+abbrev pub from_in : Columns → Fields → Option (List ℕ)
+from_in columns fields = if names_column columns columns.from then Some (field_of fields columns.from) else None
+
+-- whether a receive names the node that sent its message, in place of this: its message is empty, and that name isn't
+abbrev pub names_sender : (from : Option (List ℕ)) → (message : List ℕ) → Bool
+names_sender None message = false
+names_sender (Some from) message = (length message == 0) && not (length from == 0)
 
 -- what a record of a word tells: nothing but if it is one of a receive
 abbrev pub carried_for : StampForm → Columns → LogWord → Fields → Option (Option Stamp)
 carried_for form columns word.Local fields = Some None
 carried_for form columns word.Send fields = Some None
-carried_for form columns word.Receive fields = carried_by_fields form (carried_first form columns fields) (carried_second form columns fields)
+carried_for form columns word.Receive fields =
+    carried_by_fields form (names_sender (from_in columns fields) (field_of fields columns.message))
+    (carried_first form columns fields) (carried_second form columns fields)
 carried_for form columns word.Restart fields = Some None
 
 abbrev pub carried_after_word : StampForm → Columns → Option LogWord → Fields → Option (Option Stamp)
 carried_after_word form columns None fields = Some None
 carried_after_word form columns (Some w) fields = carried_for form columns w fields
 
--- in a log without a header nothing is told
+-- in a log without a header nothing is told, and there is no column `from`
+abbrev pub from_by : Option Columns → Fields → Option (List ℕ)
+from_by None fields = None
+from_by (Some columns) fields = from_in columns fields
+
 abbrev pub carried_by : StampForm → Option Columns → Fields → Option (Option Stamp)
 carried_by form None fields = Some None
 carried_by form (Some columns) fields = carried_after_word form columns (log_word_of (field_of fields 0)) fields

@@ -9,7 +9,7 @@ use Rattle.hlc_log_text.specs.declared.bad_log.BadLog.{BadLog}
 use Rattle.hlc_log_text.specs.declared.bad_log.BadLog.TheVariants as bad
 use Rattle.hlc_log_text.specs.declared.columns.Columns.{Columns}
 use Rattle.hlc_log_text.specs.declared.log_word.LogWord.{LogWord}
-use Rattle.hlc_log_text.specs.Columns.{arranged_by, begins_as_header, carried_by, columns_of, is_complete}
+use Rattle.hlc_log_text.specs.Columns.{arranged_by, begins_as_header, carried_by, columns_of, from_by, is_complete}
 use Rattle.hlc_log_text.specs.LogWord.{log_word_of}
 use Rattle.hlc_log_text.specs.NamedEvent.{NamedEvent, carrying, named_event_of}
 use Rattle.hlc_log_text.specs.Question.{Asked, asked_of}
@@ -29,13 +29,18 @@ asks (Ok asked) = Ok (Asks asked)
 asks (Err why) = Err why
 
 -- the first field is the word of an event: then the record is to tell of one; else it is to ask a question
-abbrev pub item_after_word : LogRules → Option LogWord → Fields → Result LogItem BadLog
-item_after_word rules (Some w) fields = tells (named_event_of rules w fields)
-item_after_word rules None fields = asks (asked_of fields)
+abbrev pub item_after_word : LogRules → (from : Option (List ℕ)) → Option LogWord → Fields → Result LogItem BadLog
+item_after_word rules from (Some w) fields = tells (named_event_of rules w from fields)
+item_after_word rules from None fields = asks (asked_of fields)
 
--- what a record says whose fields stand in their places, or the first reason for which it says nothing
+-- what a record says whose fields stand in their places, with the field of the column `from`, if there is such a column, or the first reason for
+-- which it says nothing
+abbrev pub item_from : LogRules → (from : Option (List ℕ)) → Fields → Result LogItem BadLog
+item_from rules from fields = item_after_word rules from (log_word_of (field_of fields 0)) fields
+
+-- the same of a log without a header
 abbrev pub item_of : LogRules → Fields → Result LogItem BadLog
-item_of rules fields = item_after_word rules (log_word_of (field_of fields 0)) fields
+item_of rules fields = item_from rules None fields
 
 -- a header names its columns, if it has those that each event needs
 abbrev pub header_item : StampForm → Columns → Result LogItem BadLog
@@ -73,7 +78,8 @@ carry (Some (Some stamp)) said = with_carried stamp said
 abbrev pub item_after : LogRules → List LogItem → Fields → Result LogItem BadLog
 item_after rules items fields =
     if is_header items fields then header_item rules.form (columns_of fields)
-    else carry (carried_by rules.form (columns_after items) fields) (item_of rules (arranged_by rules.form (columns_after items) fields))
+    else carry (carried_by rules.form (columns_after items) fields)
+    (item_from rules (from_by (columns_after items) fields) (arranged_by rules.form (columns_after items) fields))
 
 abbrev pub if_event : LogItem → Option NamedEvent
 if_event (Tells event) = Some event

@@ -1,19 +1,21 @@
 -- The events that were read, and what their numbers stand for; and the questions.
-use Rattle.std.specs.Prelude.{◌≡◌, ℕ, ◌+◌, ◌<◌, ◌≤◌, All, AllPairs, List, [], Option, Some, None, length, map, slice_get, slice_index_or}
+use Rattle.std.specs.Prelude.{◌≡◌, ℕ, ◌+◌, ◌*◌, ◌<◌, ◌≤◌, All, AllPairs, List, [], Option, Some, None, bytes_eq, length, map, option_map, position, slice_get, slice_index_or}
 use Rattle.std.specs.List.{filter_map}
 use Rattle.std.specs.Option.{option_and_then}
 use Rattle.hlc_stamp.specs.declared.limits.TheConstants.{MAX_NODES}
+use Rattle.hlc_stamp.specs.declared.id.NodeId.{NodeId}
 use Rattle.hlc_log.specs.declared.log_event.LogEvent.{LogEvent}
 use Rattle.hlc_log.specs.declared.log_event.LogKind.{LogKind}
 use Rattle.hlc_log.specs.declared.log_event.LogKind.TheVariants as kind
 use Rattle.hlc_log.specs.Events.{IsMessageBelow}
+use Rattle.hlc_log.specs.Senders.{told_apart}
 use Rattle.hlc_log_text.specs.declared.log_text.LogText.{LogText}
 use Rattle.hlc_log_text.specs.declared.log_word.LogWord.{LogWord}
 use Rattle.hlc_log_text.specs.declared.log_word.LogWord.TheVariants as word
 use Rattle.hlc_log_text.specs.Names.{first_mentions}
 use Rattle.hlc_log_text.specs.Labels.{label_at}
 use Rattle.hlc_log_text.specs.LogItem.{LogItem, events_in, questions_in}
-use Rattle.hlc_log_text.specs.NamedEvent.{NamedEvent, without_label}
+use Rattle.hlc_log_text.specs.NamedEvent.{NamedEvent, without_asides}
 use Rattle.hlc_log_text.specs.Question.{plain_asked}
 
 -- the name of a number
@@ -36,12 +38,13 @@ kind_message messages (kind.Receive m) = Some (name_of messages m.0)
 kind_message messages kind.Restart = None
 kind_message messages kind.Outside = None
 
--- an event with names in place of its numbers, without its label
+-- an event with names in place of its numbers, without what is kept aside
 abbrev pub with_names : (nodes messages : List (List ℕ)) → LogEvent → NamedEvent
 with_names nodes messages e = record {
-  head = record { word = kind_word e.kind; reading = e.reading; has_reading = e.has_reading; stamp = e.stamp };
+  head = record { word = kind_word e.kind; reading = e.reading; has_reading = e.has_reading; stamp = e.stamp; has_stamp = e.has_stamp };
   node = name_of nodes e.node.0;
   message = kind_message messages e.kind;
+  from = None;
   carried = e.carried;
   label = None;
 }
@@ -61,14 +64,61 @@ message_names events = first_mentions (filter_map (λ e. e.message) events)
 abbrev pub label_of_event : List NamedEvent → ℕ → Option (List ℕ)
 label_of_event events place = option_and_then (λ e. e.label) (slice_get events place)
 
--- the text has these events in their order: each name has the number of its place, each label stands at its event's place, and lines rise
-pub record IsLogOf (events : List NamedEvent) (text : LogText) : Type 0 where
-  pub told : map (with_names text.nodes (message_names events)) text.log.events ≡ map without_label events
+-- the name of the node that the event at a place tells in place of its message, if there is such an event and it does
+abbrev pub sender_of_event : List NamedEvent → ℕ → Option (List ℕ)
+sender_of_event events place = option_and_then (λ e. e.from) (slice_get events place)
+
+-- the text has these events in their order as they were read, messages without a name being of one name, the empty one: each name has the number of
+-- its place, each label stands at its event's place, and lines rise
+pub record IsRawLogOf (events : List NamedEvent) (text : LogText) : Type 0 where
+  pub told : map (with_names text.nodes (message_names events)) text.log.events ≡ map without_asides events
   pub named : All (IsNamed text.nodes (message_names events)) text.log.events
   pub nodes : text.nodes ≡ node_names events
   pub messages : text.messages ≡ length (message_names events)
   pub few_nodes : length text.nodes ≤ MAX_NODES
   pub few_messages : text.messages ≤ length text.log.events
+  pub labels : (place : ℕ) → label_at text.labels place ≡ label_of_event events place
+  pub lines_rise : AllPairs (λ d e. d.line < e.line) text.log.events
+
+-- so it has the events that records tell of, and the questions that they ask, in their order
+pub record IsRawTextOf (items : List LogItem) (text : LogText) : Type 0 where
+  pub log : IsRawLogOf (events_in items) text
+  pub questions : map plain_asked text.questions.items ≡ questions_in items
+
+-- the node of a name among the names of a log's nodes, if it is one
+abbrev pub node_of : List (List ℕ) → Option (List ℕ) → Option NodeId
+node_of nodes None = None
+node_of nodes (Some name) = option_map (λ n. record { 0 = n }) (position (bytes_eq name) nodes)
+
+-- the nodes that events name as senders, by their places
+abbrev pub senders_of : (nodes : List (List ℕ)) → List NamedEvent → List (Option NodeId)
+senders_of nodes events = map (λ e. node_of nodes e.from) events
+
+-- the number of the messages without a name, if there are such
+abbrev pub unnamed_in : (messages : List (List ℕ)) → Option ℕ
+unnamed_in messages = position (bytes_eq []) messages
+
+-- a log with the messages without a name told apart, if there are such, which have this number among so many
+abbrev pub apart_if : (unnamed : Option ℕ) → (messages : ℕ) → List (Option NodeId) → List LogEvent → List LogEvent
+apart_if None messages senders events = events
+apart_if (Some n) messages senders events = told_apart (record { 0 = n }) messages senders events
+
+-- below how many the numbers of messages then are
+abbrev pub apart_count : (unnamed : Option ℕ) → (messages count : ℕ) → ℕ
+apart_count None messages count = messages
+apart_count (Some n) messages count = messages + count
+
+-- the text has these events in their order: as they were read, each name has the number of its place, and messages without a name are of one name,
+-- the empty one; these were then told apart by who sent them with which stamp. Each label stands at its event's place, and lines rise
+pub record IsLogOf (events : List NamedEvent) (text : LogText) : Type 0 where
+  pub raw : List LogEvent
+  pub told : map (with_names text.nodes (message_names events)) raw ≡ map without_asides events
+  pub named : All (IsNamed text.nodes (message_names events)) raw
+  pub apart : text.log.events ≡ apart_if (unnamed_in (message_names events)) (length (message_names events)) (senders_of text.nodes events) raw
+  pub nodes : text.nodes ≡ node_names events
+  pub messages : text.messages ≡ apart_count (unnamed_in (message_names events)) (length (message_names events)) (length raw)
+  pub few_nodes : length text.nodes ≤ MAX_NODES
+  pub few_messages : text.messages ≤ 2 * length text.log.events
   pub labels : (place : ℕ) → label_at text.labels place ≡ label_of_event events place
   pub lines_rise : AllPairs (λ d e. d.line < e.line) text.log.events
 

@@ -1,13 +1,14 @@
 -- What the records of a log say.
-use Rattle.std.specs.Prelude.{◌==◌, ◌&&◌, ℕ, ◌+◌, ◌-◌, Bool, false, List, length, max, min, not, Option, Some, None, Result, Ok, Err, if◌then◌else◌, nat_le, option_map, slice_get}
+use Rattle.std.specs.Prelude.{◌==◌, ◌&&◌, ℕ, ◌+◌, ◌-◌, Bool, false, List, length, max, min, not, Option, Some, None, Result, Ok, Err, if◌then◌else◌, is_some, nat_le, option_map, slice_get, true, unwrap_or}
 use Rattle.std.specs.Option.{option_and_then}
 use Rattle.hlc_causality.specs.declared.event_rule.TheConstants.{MAX_FLOOR_C}
 use Rattle.hlc_stamp.specs.declared.limits.TheConstants.{MAX_READING}
 use Rattle.hlc_stamp.specs.declared.stamp.Stamp.{Stamp}
-use Rattle.hlc_stamp.specs.Order.{Pair}
+use Rattle.hlc_stamp.specs.Order.{Pair, zero_pair}
 use Rattle.hlc_csv.specs.Number.{number_of}
 use Rattle.hlc_csv.specs.Rows.{Fields, field_of}
-use Rattle.hlc_log_text.specs.StampForms.{form_stamp, stamp_field_count}
+use Rattle.hlc_log_text.specs.Columns.{names_sender}
+use Rattle.hlc_log_text.specs.StampForms.{form_stamp, is_empty_stamp, stamp_field_count}
 use Rattle.hlc_log_text.specs.declared.log_rules.LogRules.{LogRules}
 use Rattle.hlc_log_text.specs.declared.stamp_form.StampForm.{StampForm}
 use Rattle.hlc_log_text.specs.declared.bad_log.BadLog.{BadLog}
@@ -48,32 +49,53 @@ is_name field = nat_le 1 (length field) && nat_le (length field) MAX_NAME_LEN
 abbrev pub message_place : StampForm → ℕ
 message_place form = 3 + stamp_field_count form
 
+-- whether a field may be the name of a sent message, given the field of the column `from`, if there is such a column: then it may be empty
+abbrev pub is_sent_name : (from : Option (List ℕ)) → List ℕ → Bool
+is_sent_name None name = is_name name
+is_sent_name (Some from) name = nat_le (length name) MAX_NAME_LEN
+
+-- whether it may be that of a received one: then it may be empty if the column names the sending node
+abbrev pub is_received_name : (from : Option (List ℕ)) → List ℕ → Bool
+is_received_name None name = is_name name
+is_received_name (Some from) name = if length name == 0 then is_name from else is_name name
+
 -- whether the names of a record of a word may be such
-abbrev pub has_good_names : StampForm → LogWord → Fields → Bool
-has_good_names form word.Local fields = is_name (field_of fields 1)
-has_good_names form word.Send fields = is_name (field_of fields 1) && is_name (field_of fields (message_place form))
-has_good_names form word.Receive fields = is_name (field_of fields 1) && is_name (field_of fields (message_place form))
-has_good_names form word.Restart fields = is_name (field_of fields 1)
+abbrev pub has_good_names : StampForm → LogWord → (from : Option (List ℕ)) → Fields → Bool
+has_good_names form word.Local from fields = is_name (field_of fields 1)
+has_good_names form word.Send from fields = is_name (field_of fields 1) && is_sent_name from (field_of fields (message_place form))
+has_good_names form word.Receive from fields = is_name (field_of fields 1) && is_received_name from (field_of fields (message_place form))
+has_good_names form word.Restart from fields = is_name (field_of fields 1)
+
+-- what the fields of a stamp tell in a record of a word, if they are well written: at a receive they may be empty, and then they tell none
+abbrev pub stamp_told : StampForm → LogWord → Fields → Option (Option Stamp)
+stamp_told form word.Receive fields = if is_empty_stamp form fields 3 then Some None else option_map (λ stamp. Some stamp) (form_stamp form fields 3)
+stamp_told form w fields = option_map (λ stamp. Some stamp) (form_stamp form fields 3)
+
+-- the stamp that is told, or (0, 0) if none is
+abbrev pub stamp_or_zero : Option Stamp → Stamp
+stamp_or_zero told = unwrap_or told zero_pair
 
 -- what a record of a restart says but for its names, with its stamp, if there is room above that: it tells no reading
 abbrev pub restart_head : Stamp → Option RecordHead
 restart_head stamp =
-    if nat_le stamp.c MAX_FLOOR_C then Some (record { word = word.Restart; reading = assumed_reading stamp; has_reading = false; stamp = stamp })
+    if nat_le stamp.c MAX_FLOOR_C
+    then Some (record { word = word.Restart; reading = assumed_reading stamp; has_reading = false; stamp = stamp; has_stamp = true })
     else None
 
--- what a record of a word says but for its names, with its reading, whether it tells that, and its stamp
-abbrev pub head_by : LogWord → (reading : ℕ) → (has_reading : Bool) → Stamp → Option RecordHead
-head_by word.Restart reading has_reading stamp = restart_head stamp
-head_by w reading has_reading stamp = Some (record { word = w; reading = reading; has_reading = has_reading; stamp = stamp })
+-- what a record of a word says but for its names, with its reading, whether it tells that, and the stamp that it tells
+abbrev pub head_by : LogWord → (reading : ℕ) → (has_reading : Bool) → Option Stamp → Option RecordHead
+head_by word.Restart reading has_reading told = restart_head (stamp_or_zero told)
+head_by w reading has_reading told =
+    Some (record { word = w; reading = reading; has_reading = has_reading; stamp = stamp_or_zero told; has_stamp = is_some told })
 
--- what a record says but for its names, given what its reading's field says, and its stamp, if it is there
-abbrev pub head_from : (tolerance : ℕ) → LogWord → List ℕ → Option Stamp → Option RecordHead
+-- what a record says but for its names, given what its reading's field says, and what those of its stamp tell, if they are well written
+abbrev pub head_from : (tolerance : ℕ) → LogWord → List ℕ → Option (Option Stamp) → Option RecordHead
 head_from tolerance w field None = None
-head_from tolerance w field (Some stamp) =
-    option_and_then (λ reading. head_by w reading (not (length field == 0)) stamp) (reading_with tolerance field stamp)
+head_from tolerance w field (Some told) =
+    option_and_then (λ reading. head_by w reading (not (length field == 0)) told) (reading_with tolerance field (stamp_or_zero told))
 
 abbrev pub head_with : LogRules → LogWord → Fields → Option RecordHead
-head_with rules w fields = head_from rules.tolerance w (field_of fields 2) (form_stamp rules.form fields 3)
+head_with rules w fields = head_from rules.tolerance w (field_of fields 2) (stamp_told rules.form w fields)
 
 -- the numbers are there: then the names are good
 abbrev pub head_or_name : Option RecordHead → Bool → Result RecordHead BadLog
@@ -82,9 +104,9 @@ head_or_name (Some head) good = if good then Ok head else Err bad.Name
 
 -- what a record of a word says but for its names, or the first reason for which it says nothing: the number of fields has to be right, then the
 -- numbers are there, and then the names are good
-abbrev pub head_of : LogRules → LogWord → Fields → Result RecordHead BadLog
-head_of rules w fields =
-    if has_fields_of rules.form w (length fields) then head_or_name (head_with rules w fields) (has_good_names rules.form w fields) else Err bad.Fields
+abbrev pub head_of : LogRules → LogWord → (from : Option (List ℕ)) → Fields → Result RecordHead BadLog
+head_of rules w from fields =
+    if has_fields_of rules.form w (length fields) then head_or_name (head_with rules w fields) (has_good_names rules.form w from fields) else Err bad.Fields
 
 -- the same with what the record tells of a carried stamp; if that is badly written, the numbers aren't there
 abbrev pub carried_head : Result RecordHead BadLog → Option (Option Pair) → Result (RecordHead × Option Pair) BadLog
@@ -93,25 +115,26 @@ carried_head (Err why) (Some carried) = Err why
 carried_head (Err bad.Fields) None = Err bad.Fields
 carried_head said None = Err bad.Number
 
-abbrev pub carried_head_of : LogRules → LogWord → Fields → Option (Option Pair) → Result (RecordHead × Option Pair) BadLog
-carried_head_of rules w fields carried = carried_head (head_of rules w fields) carried
+abbrev pub carried_head_of : LogRules → LogWord → (from : Option (List ℕ)) → Fields → Option (Option Pair) → Result (RecordHead × Option Pair) BadLog
+carried_head_of rules w from fields carried = carried_head (head_of rules w from fields) carried
 
 -- the label of a record of a word, if it has one: the one field more than the word has
 abbrev pub label_of : StampForm → LogWord → Fields → Option (List ℕ)
 label_of form w fields = slice_get fields (log_field_count form w)
 
--- an event as a record of a log tells of it, with the names of its node and of its message, the stamp that a received message carried, and its
--- label, if it has them
+-- an event as a record of a log tells of it, with the names of its node and of its message, which is empty if the message has none, the name of
+-- the node that a receive tells in place of that, the stamp that a received message carried, and its label, if it has them
 pub record NamedEvent : Type 0 where
   pub head : RecordHead
   pub node : List ℕ
   pub message : Option (List ℕ)
+  pub from : Option (List ℕ)
   pub carried : Option Pair
   pub label : Option (List ℕ)
 
--- it without its label
-abbrev pub without_label : NamedEvent → NamedEvent
-without_label e = record { head = e.head; node = e.node; message = e.message; carried = e.carried; label = None }
+-- it without what is kept aside: the name of the sending node, and its label
+abbrev pub without_asides : NamedEvent → NamedEvent
+without_asides e = record { head = e.head; node = e.node; message = e.message; from = None; carried = e.carried; label = None }
 
 -- it with what its message carried
 abbrev pub carrying : Option Pair → NamedEvent → NamedEvent
@@ -124,15 +147,34 @@ if_message word.Send name = Some name
 if_message word.Receive name = Some name
 if_message word.Restart name = None
 
--- the event of a record with these names and this label, which tells of nothing carried; a local one has no message, nor has a restart
-abbrev pub told_by : RecordHead → (node message : List ℕ) → Option (List ℕ) → NamedEvent
-told_by head node message label = record { head = head; node = node; message = if_message head.word message; carried = None; label = label }
+-- the name of the node that sent the message, if a record of the word names it in place of that
+abbrev pub if_named : (is_named : Bool) → Option (List ℕ) → Option (List ℕ)
+if_named true from = from
+if_named false from = None
 
-abbrev pub named_event_from : StampForm → LogWord → Fields → Result RecordHead BadLog → Result NamedEvent BadLog
-named_event_from form w fields (Ok head) =
-    Ok (told_by head (field_of fields 1) (field_of fields (message_place form)) (label_of form w fields))
-named_event_from form w fields (Err why) = Err why
+abbrev pub if_sender : LogWord → (from : Option (List ℕ)) → (message : List ℕ) → Option (List ℕ)
+if_sender word.Local from message = None
+if_sender word.Send from message = None
+if_sender word.Receive from message = if_named (names_sender from message) from
+if_sender word.Restart from message = None
+
+-- the event of a record with these names, the field of the column `from`, if there is such a column, and this label, which tells of nothing
+-- carried; a local one has no message, nor has a restart
+abbrev pub told_by : RecordHead → (node message : List ℕ) → (from : Option (List ℕ)) → Option (List ℕ) → NamedEvent
+told_by head node message from label = record {
+  head = head;
+  node = node;
+  message = if_message head.word message;
+  from = if_sender head.word from message;
+  carried = None;
+  label = label;
+}
+
+abbrev pub named_event_from : StampForm → LogWord → (from : Option (List ℕ)) → Fields → Result RecordHead BadLog → Result NamedEvent BadLog
+named_event_from form w from fields (Ok head) =
+    Ok (told_by head (field_of fields 1) (field_of fields (message_place form)) from (label_of form w fields))
+named_event_from form w from fields (Err why) = Err why
 
 -- the event of a record of a word, or the first reason for which it has none
-abbrev pub named_event_of : LogRules → LogWord → Fields → Result NamedEvent BadLog
-named_event_of rules w fields = named_event_from rules.form w fields (head_of rules w fields)
+abbrev pub named_event_of : LogRules → LogWord → (from : Option (List ℕ)) → Fields → Result NamedEvent BadLog
+named_event_of rules w from fields = named_event_from rules.form w from fields (head_of rules w from fields)

@@ -1,9 +1,11 @@
 -- A log while it is read.
 use Rattle.std.specs.Prelude.{◌≡◌, ℕ, Bool, true, false, ◌+◌, ◌<◌, ◌≤◌, ◌⊎◌, All, List, [], ◌∷◌, ◌++◌, Option, Some, None, Result, Ok, Err, length, map, max, slice_get}
+use Rattle.std.specs.List.{range_with_len}
 use Rattle.hlc_stamp.specs.declared.id.NodeId.{NodeId}
 use Rattle.hlc_stamp.specs.declared.limits.TheConstants.{MAX_CAPACITY, MAX_NODES}
 use Rattle.hlc_log.specs.declared.log_event.LogKind.{LogKind}
 use Rattle.hlc_log.specs.Events.{IsMessageBelow}
+use Rattle.hlc_log.specs.Log.{StoredLog}
 use Rattle.hlc_csv.specs.Rows.{Fields}
 use Rattle.hlc_csv.specs.declared.found_record.FoundRecord.{FoundRecord}
 use Rattle.hlc_csv.specs.declared.found_record.TheConstants.{LAST_LINE}
@@ -15,7 +17,8 @@ use Rattle.hlc_log_text.specs.declared.log_text.LogText.{LogText}
 use Rattle.hlc_log_text.specs.declared.log_word.LogWord.{LogWord}
 use Rattle.hlc_log_text.specs.declared.partial_log.PartialLog.{PartialLog}
 use Rattle.hlc_log_text.specs.LogItem.{Asks, LogItem, Tells, columns_after, event_lines, events_in, item_after}
-use Rattle.hlc_log_text.specs.LogText.{IsTextOf, kind_message, kind_word, message_names, node_names, record_count}
+use Rattle.hlc_log_text.specs.Labels.{label_at}
+use Rattle.hlc_log_text.specs.LogText.{IsRawTextOf, apart_count, apart_if, kind_message, kind_word, message_names, node_names, node_of, record_count, sender_of_event, unnamed_in}
 use Rattle.hlc_log_text.specs.Names.{with_name}
 use Rattle.hlc_log_text.specs.NamedEvent.{NamedEvent, if_message}
 use Rattle.hlc_log_text.specs.Question.{Asked}
@@ -52,9 +55,33 @@ text_of partial = record {
   questions = partial.questions;
 }
 
+-- the nodes that so many events name as senders, by their places
+abbrev pub nodes_named : (nodes : List (List ℕ)) → (senders : List (ℕ × List ℕ)) → (count : ℕ) → List (Option NodeId)
+nodes_named nodes senders count = map (λ place. node_of nodes (label_at senders place)) (range_with_len 0 count)
+
+-- what was read, with the messages without a name told apart, if there are such
+abbrev pub apart_log : PartialLog → StoredLog
+apart_log partial =
+    let senders = nodes_named partial.nodes partial.senders (length partial.log.events) in
+    record { events = apart_if (unnamed_in partial.messages) (length partial.messages) senders partial.log.events }
+
+abbrev pub apart_text : PartialLog → LogText
+apart_text partial = record {
+  log = apart_log partial;
+  nodes = partial.nodes;
+  messages = apart_count (unnamed_in partial.messages) (length partial.messages) (length partial.log.events);
+  labels = partial.labels;
+  questions = partial.questions;
+}
+
+-- what was read names few nodes, and mentions no more messages than it has events
+pub record HasFewNames (partial : PartialLog) : Type 0 where
+  pub few_nodes : length partial.nodes ≤ MAX_NODES
+  pub few_messages : length partial.messages ≤ length partial.log.events
+
 -- records that say this were read so far, which begin on these lines
 pub record IsPartialLog (items : List LogItem) (lines : List ℕ) (partial : PartialLog) : Type 0 where
-  pub held : IsTextOf items (text_of partial)
+  pub held : IsRawTextOf items (text_of partial)
   pub messages : partial.messages ≡ message_names (events_in items)
   pub on_lines : map (λ e. e.line) partial.log.events ≡ event_lines items lines
   pub one_each : length lines ≡ length items
@@ -63,6 +90,7 @@ pub record IsPartialLog (items : List LogItem) (lines : List ℕ) (partial : Par
   pub low : length items ≤ partial.line
   pub columns : partial.columns ≡ columns_after items
   pub last : partial.line ≤ LAST_LINE + length items
+  pub senders : (place : ℕ) → label_at partial.senders place ≡ sender_of_event (events_in items) place
 
 -- one more record finds numbers for its names and its line
 pub record HasPlace (partial : PartialLog) : Type 0 where

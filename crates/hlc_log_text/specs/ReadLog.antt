@@ -15,9 +15,10 @@ use Rattle.hlc_log_text.specs.declared.bad_log.BadLog.TheVariants as bad
 use Rattle.hlc_log_text.specs.declared.fault.LogTextFault.{LogTextFault}
 use Rattle.hlc_log_text.specs.declared.fault.LogTextFault.TheVariants as fault
 use Rattle.hlc_log_text.specs.declared.log_text.LogText.{LogText}
+use Rattle.hlc_log_text.specs.declared.partial_log.PartialLog.{PartialLog}
 use Rattle.hlc_log_text.specs.LogItem.{LogItem, event_lines, events_in, item_after}
 use Rattle.hlc_log_text.specs.LogText.{IsTextOf, node_names}
-use Rattle.hlc_log_text.specs.PartialLog.{IsBadAfter}
+use Rattle.hlc_log_text.specs.PartialLog.{IsBadAfter, IsPartialLog}
 
 -- each of some records says what stands at its place, after those that say what stands before
 abbrev pub SayAfter : LogRules → (before : List LogItem) → List Fields → List LogItem → Type 0
@@ -48,6 +49,19 @@ AreOnLines (Some bytes) items events = map (λ e. e.line) events ≡ event_lines
 abbrev pub IsOnLine : Option (List ℕ) → (place : ℕ) → ℕ → Type 0
 IsOnLine None place line = Unit {0}
 IsOnLine (Some bytes) place line = line ≡ line_of bytes place
+
+-- these bytes are records, so many at most, whose quotation marks are closed, and what they say was read
+pub record IsReadInto (rules : LogRules) (most : ℕ) (bytes : Option (List ℕ)) (partial : PartialLog) : Type 0 where
+  pub records : List Fields
+  pub items : List LogItem
+  pub lines : List ℕ
+  pub all : AreAllOf bytes records
+  pub only : IsOnly bytes records
+  pub closed : IsClosed bytes
+  pub within : length records ≤ most
+  pub make : SayItems rules records items
+  pub held : IsPartialLog items lines partial
+  pub on_lines : AreOnLines bytes items partial.log.events
 
 -- these bytes are records, so many at most, whose quotation marks are closed, and the text has their events and their questions
 pub record IsReadWhole (rules : LogRules) (most : ℕ) (bytes : Option (List ℕ)) (text : LogText) : Type 0 where

@@ -1,5 +1,5 @@
 -- The forms in which logs write stamps.
-use Rattle.std.specs.Prelude.{◌==◌, ℕ, ◌+◌, ◌-◌, ◌^◌, List, Option, Some, None, if◌then◌else◌, drop, nat_le, option_map, position, take}
+use Rattle.std.specs.Prelude.{◌==◌, ◌&&◌, ℕ, ◌+◌, ◌-◌, ◌^◌, Bool, List, Option, Some, None, if◌then◌else◌, drop, length, nat_le, option_map, position, take}
 use Rattle.hlc_stamp.specs.declared.stamp.Stamp.{Stamp}
 use Rattle.hlc_csv.specs.Number.{number_of, of_both}
 use Rattle.hlc_csv.specs.Rows.{Fields, field_of}
@@ -38,6 +38,12 @@ abbrev pub form_stamp : StampForm → Fields → ℕ → Option Stamp
 form_stamp Pair fields place = pair_stamp (field_of fields place) (field_of fields (place + 1))
 form_stamp Dotted fields place = dotted_stamp (field_of fields place)
 form_stamp (Packed p) fields place = packed_stamp p.bits (field_of fields place)
+
+-- whether the fields of a stamp at a place are empty
+abbrev pub is_empty_stamp : StampForm → Fields → ℕ → Bool
+is_empty_stamp Pair fields place = (length (field_of fields place) == 0) && (length (field_of fields (place + 1)) == 0)
+is_empty_stamp Dotted fields place = length (field_of fields place) == 0
+is_empty_stamp (Packed p) fields place = length (field_of fields place) == 0
 
 -- the stamp that two fields write, of which a stamp may take the first only
 abbrev pub fields_stamp : StampForm → (first second : List ℕ) → Option Stamp

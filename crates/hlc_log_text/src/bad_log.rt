@@ -7,11 +7,13 @@ pub enum BadLog {
     Header,
     /// It has too few or too many fields for its word.
     Fields,
-    /// Its reading is there and no number from 1 to `MAX_READING`, or it has no stamp in the form of the log, or it tells of a restart and
-    /// `c` of its stamp is above `MAX_FLOOR_C`, or of a receive whose carried stamp is there, but not in the form of the log or without
-    /// room above its `c`; or a line in its question is no number.
+    /// Its reading is there and no number from 1 to `MAX_READING`, or it has no stamp in the form of the log, of which a receive may leave all
+    /// fields empty, or it tells of a restart and `c` of its stamp is above `MAX_FLOOR_C`, or of a receive whose carried stamp is there, but
+    /// not in the form of the log or without room above its `c`, or isn't there, though the receive names its sender in place of its message;
+    /// or a line in its question is no number.
     Number,
-    /// The name of its node or of its message is empty, or longer than `MAX_NAME_LEN`.
+    /// The name of its node or of its message is empty, or longer than `MAX_NAME_LEN`, or that of a sender in place of a message is. In a log with
+    /// a column `from` the message of a send may be empty, and so may that of a receive that names its sender there.
     Name,
     /// It names one more node than `MAX_NODES`.
     Node,

@@ -1,9 +1,9 @@
 // The columns of a log with a header.
 
-ghost use Rattle.std.specs.Prelude.{◌≡◌, ◌∷◌, ◌++◌, [], OnOk};
+ghost use Rattle.std.specs.Prelude.{◌≡◌, ◌∷◌, ◌++◌, [], OnOk, option_map};
 ghost use Rattle.csv.specs.Records.{fields_of, partial_of};
 ghost use Rattle.hlc_csv.specs.Rows.{field_of};
-ghost use Rattle.hlc_log_text.specs.Columns.{begins_as_header, column_in, label_part};
+ghost use Rattle.hlc_log_text.specs.Columns.{begins_as_header, column_in, label_part, names_sender};
 
 use crate::log_word::LogWord;
 use crate::stamp_form::StampForm;
@@ -30,6 +30,8 @@ pub(crate) struct Columns {
     pub(crate) carried_l: usize,
     pub(crate) carried_c: usize,
     pub(crate) message: usize,
+    // Of the node that sent a received message, if the record names that in place of it.
+    pub(crate) from: usize,
     pub(crate) label: usize,
 }
 
@@ -38,6 +40,16 @@ pub(crate) fn begins_as_header(fields: &ByteRecord) -> bool
     ensures { result ≡ begins_as_header (fields_of fields.now) }
 {
     field(fields, 0) == b"kind".as_slice()
+}
+
+// Whether a receive names the node that sent its message, in place of this.
+pub(crate) fn names_sender(from: Option<&[u8]>, message: &[u8]) -> bool
+    ensures { result ≡ names_sender (option_map (λ from. from.now) from.entry) message.now }
+{
+    match from {
+        Some(from) => message.is_empty() && !from.is_empty(),
+        None => false,
+    }
 }
 
 // Where the first column of a name stands.
@@ -73,7 +85,7 @@ fn push_label(label: &[u8], placed: &mut ByteRecord) -> Result<(), AllocError>
 }
 
 impl Columns {
-    ghost use Rattle.hlc_log_text.specs.Columns.{arranged, carried_first, carried_for, carried_second, columns_of, is_complete, message_part, stamp_part};
+    ghost use Rattle.hlc_log_text.specs.Columns.{arranged, carried_first, carried_for, carried_second, columns_of, from_in, is_complete, message_part, stamp_part};
 
     // Those that a header names.
     pub(crate) fn named(header: &ByteRecord) -> Columns
@@ -90,6 +102,7 @@ impl Columns {
             carried_l: column(header, b"carried_l"),
             carried_c: column(header, b"carried_c"),
             message: column(header, b"message"),
+            from: column(header, b"from"),
             label: column(header, b"label"),
         }
     }
@@ -187,6 +200,16 @@ impl Columns {
         }
     }
 
+    // The field of the column `from`, if there is such a column.
+    pub(crate) fn from(self, fields: &ByteRecord) -> Option<&[u8]>
+        ensures { option_map (λ from. from.now) result ≡ from_in self (fields_of fields.now) }
+    {
+        if self.from >= self.count {
+            return None;
+        }
+        Some(field(fields, self.from))
+    }
+
     // What a record that begins with the word of an event tells of the stamp that a message carried: `None` if it is badly written.
     pub(crate) fn carried(
         self,
@@ -201,8 +224,9 @@ impl Columns {
         }
         let first = self.first_carried(form, fields);
         let second = self.second_carried(form, fields);
+        let is_needed = names_sender(self.from(fields), field(fields, self.message));
         if first.is_empty() && second.is_empty() {
-            return Some(None);
+            return if is_needed { None } else { Some(None) };
         }
         let stamp = form.stamp_of(first, second)?;
         if stamp.c >= MAX_FLOOR_C {

@@ -8,14 +8,23 @@
 //! `MAX_FLOOR_C` of `hlc_causality`, and the event never has a reading that is told, whatever its field says.
 //!
 //! If the first field of a log is `kind`, its first record is a header, which names the columns: `node`, `l` and `c`, or `stamp` if
-//! that is one field, and `reading`, `message`, `label` and `carried`, which may be left out, in any order. A restart has the columns of a
-//! local event. Other columns aren't read.
+//! that is one field, and `reading`, `message`, `from`, `label` and `carried`, which may be left out, in any order. A restart has the columns
+//! of a local event. Other columns aren't read.
 //!
 //! In the column `carried`, or in `carried_l` and `carried_c` if a stamp is two fields, a receive tells which stamp its message carried, in
 //! the form of the log; its `c` is below `MAX_FLOOR_C`. If the fields are empty, it doesn't tell. In records of other words they aren't
 //! read, and in a log without a header nothing is told.
 //!
+//! In the column `from` a receive names the node that sent its message, in place of the message, which it leaves empty. It has to tell which
+//! stamp its message carried: it receives the message of the first event of the log that this node sends with that stamp, wherever in the log
+//! that stands, or one from outside if there is none. Where there is such a column, a send may leave its message empty too, and then only a
+//! receive that names its node and stamp can be of it. In records of other words, and of receives whose message has a name, the column isn't
+//! read, and a name in it makes no node.
+//!
 //! `READING` may be empty: then it is taken as `l` of the stamp, and the event says that its log doesn't tell it.
+//!
+//! So may `STAMP` at a receive, with each of its fields: then the event says that its log doesn't tell it, and its stamp is (0, 0) until it is
+//! given one. Its reading is taken as at that stamp: 1 if it isn't told either.
 //!
 //! Records that ask questions may stand anywhere among them: `explain,LINE`, `check,LINE` and any number of lines after it,
 //! `relation,LINE,LINE`, `influenced,LINE`, `drift,NODE`, `claimed,LINE` or `event,LINE`. A question is asked of the whole log, so
@@ -32,7 +41,7 @@
 //!   (uhlc, YugabyteDB and TiDB: 4, 12 and 18 of them). `field_count` says how many fields that takes, and `full` is the
 //!   greatest `c` that can be written so. An `l` may be any number of 64 bits: which of them a clock may have is said elsewhere.
 //! - `PackedBits` says how many bits `c` has in a packed stamp; it packs a stamp, and unpacks a number.
-//! - `laws` says that packing loses nothing and keeps the order.
+//! - `laws` says that packing loses nothing and keeps the order, and that a log in which each message has a name is as it was read.
 //! - `LogTextFault` says why a log could not be read; for a record that is bad, `BadLine` has its line and the reason. A log that
 //!   ends within a field which a quotation mark opens is none: it is cut, or one quotation mark is missing.
 //!

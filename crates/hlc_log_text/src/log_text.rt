@@ -10,7 +10,8 @@ pub struct LogText {
     pub log: Log,
     /// The names of the nodes, by their numbers.
     pub nodes: Names,
-    /// How many messages the events mention. Each has a number below that; its name isn't kept.
+    /// Each message of the events has a number below that: as many as they have names of messages, which aren't kept, and as there are events
+    /// besides if a message has no name.
     pub messages: usize,
     /// The labels of the events, by their places.
     pub labels: Labels,

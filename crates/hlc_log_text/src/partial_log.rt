@@ -4,15 +4,16 @@ ghost use Rattle.std.specs.Prelude.{◌≡◌, ◌^◌, ◌<◌, ◌≤◌, ℕ,
 ghost use Rattle.csv.specs.Records.{fields_of};
 ghost use Rattle.hlc_csv.specs.Rows.{field_of};
 ghost use Rattle.hlc_log_text.specs.Columns.{columns_of};
-ghost use Rattle.hlc_log_text.specs.LogItem.{LogItem, carry, header_item, is_header, item_after, item_of};
+ghost use Rattle.hlc_log_text.specs.LogItem.{LogItem, carry, header_item, is_header, item_after, item_from, item_of};
+ghost use Rattle.hlc_log_text.specs.LogText.{apart_count, node_of, unnamed_in};
 ghost use Rattle.hlc_log_text.specs.LogWord.{log_word_of};
 ghost use Rattle.hlc_log_text.specs.Names.{with_name};
-ghost use Rattle.hlc_log_text.specs.NamedEvent.{carrying, told_by};
-ghost use Rattle.hlc_log_text.specs.PartialLog.{AddsNext, AsksNext, HasPlace, IsNextLine, IsPartialLog, NumbersNode, TakesNext, TakesOr, TakesSaid, TellsKind, text_of, told_line};
+ghost use Rattle.hlc_log_text.specs.NamedEvent.{carrying, if_sender, told_by};
+ghost use Rattle.hlc_log_text.specs.PartialLog.{AddsNext, AsksNext, HasFewNames, HasPlace, IsNextLine, IsPartialLog, NumbersNode, TakesNext, TakesOr, TakesSaid, TellsKind, apart_log, apart_text, nodes_named, told_line};
 ghost use Rattle.hlc_log_text.specs.Question.{plain_asked};
 
 use crate::bad_log::{BadLine, BadLog};
-use crate::columns::{Columns, begins_as_header};
+use crate::columns::{Columns, begins_as_header, names_sender};
 use crate::hints::Hints;
 use crate::labels::Labels;
 use crate::log_rules::LogRules;
@@ -20,11 +21,11 @@ use crate::log_text::LogText;
 use crate::log_word::LogWord;
 use crate::name_set::NameSet;
 use crate::question::LogQuestion;
-use crate::record_head::{NODE_PLACE, RecordHead, label, message_place, parse_carrying};
+use crate::record_head::{Beside, NODE_PLACE, RecordHead, label, message_place, parse_carrying};
 use crate::stamp_form::StampForm;
 use csv::ByteRecord;
 use hlc_csv::{FoundRecord, field};
-use hlc_log::{Log, LogEvent, LogKind, MessageId};
+use hlc_log::{Log, LogEvent, LogKind, MessageId, tell_apart};
 use hlc_stamp::{EventId, MAX_NODES, NodeId, Stamp};
 use std::alloc::{AllocError, Global};
 
@@ -35,11 +36,24 @@ pub(crate) struct PartialLog {
     nodes: NameSet,
     messages: NameSet,
     labels: Labels,
+    // The names of the nodes that receives tell in place of their messages.
+    senders: Labels,
     questions: Vec<LogQuestion>,
     pub(crate) line: u32,
     // If the log has a header.
     columns: Option<Columns>,
     hints: Hints,
+}
+
+// The names of a record, and its label.
+#[derive(Clone, Copy)]
+struct RecordNames<'a> {
+    node: &'a [u8],
+    // Of a message, if the word has one. It may be empty.
+    message: &'a [u8],
+    // The field of the column `from`, if there is such a column.
+    from: Option<&'a [u8]>,
+    label: Option<&'a [u8]>,
 }
 
 // Whether a node has this name.
@@ -106,6 +120,40 @@ fn number_message(messages: &mut NameSet, word: LogWord, name: &[u8]) -> Result<
     }
 }
 
+// The name of the node that sent the message, if a record of the word names it in place of that.
+fn sender<'a>(word: LogWord, from: Option<&'a [u8]>, message: &[u8]) -> Option<&'a [u8]>
+    ensures { option_map (λ sender. sender.now) result ≡ if_sender word (option_map (λ from. from.now) from.entry) message.now }
+{
+    if word == LogWord::Receive && names_sender(from, message) {
+        from
+    } else {
+        None
+    }
+}
+
+// The node of a name, if it is one of a log's.
+fn node_of(nodes: &NameSet, name: Option<&[u8]>) -> Option<NodeId>
+    requires { length nodes.now ≤ MAX_NODES }
+    ensures { result ≡ node_of nodes.now (option_map (λ name. name.now) name.entry) }
+{
+    let number = nodes.number(name?)?;
+    Some(NodeId(number as u16))
+}
+
+// The nodes that so many events name as senders, by their places.
+fn nodes_named(
+    alloc: Global,
+    nodes: &NameSet,
+    senders: &Labels,
+    count: u32,
+) -> Result<Vec<Option<NodeId>>, AllocError>
+    requires { length nodes.now ≤ MAX_NODES }
+    ensures { IfOk result (λ named. named.items ≡ nodes_named nodes.now senders.now count) }
+{
+    let name = |place: u32| node_of(nodes, senders.get(EventId(place)));
+    (0..count).map(name).collect(alloc)
+}
+
 impl PartialLog {
     // Nothing was read.
     pub(crate) fn new(alloc: Global) -> PartialLog
@@ -116,6 +164,7 @@ impl PartialLog {
             nodes: NameSet::new(alloc),
             messages: NameSet::new(alloc),
             labels: Labels::new(alloc),
+            senders: Labels::new(alloc),
             questions: Vec::new(alloc),
             line: 0,
             columns: None,
@@ -164,11 +213,20 @@ impl PartialLog {
         }
         match (LogWord::parse(field(fields, 0)), self.columns) {
             (None, _) => self.take_question(rules, fields, line),
-            (Some(word), None) => self.take_event(rules, word, fields, Some(None), line),
+            (Some(word), None) => {
+                let beside = Beside {
+                    carried: Some(None),
+                    from: None,
+                };
+                self.take_event(rules, word, fields, beside, line)
+            }
             (Some(word), Some(columns)) => {
                 columns.arrange(rules.form, word, fields, arranged)?;
-                let carried = columns.carried(rules.form, word, fields);
-                self.take_event(rules, word, arranged, carried, line)
+                let beside = Beside {
+                    carried: columns.carried(rules.form, word, fields),
+                    from: columns.from(fields),
+                };
+                self.take_event(rules, word, arranged, beside, line)
             }
         }
     }
@@ -195,28 +253,33 @@ impl PartialLog {
         None
     }
 
-    // Takes in a record that begins with a word of events, and tells this of a carried stamp: `None` if that is badly written.
+    // Takes in a record that begins with a word of events, and tells this beside.
     fn take_event(
         &mut self,
         rules: LogRules,
         word: LogWord,
         fields: &ByteRecord,
-        carried: Option<Option<Stamp>>,
+        beside: Beside<'_>,
         line: u32,
     ) -> Result<Option<BadLog>, AllocError>
         requires word { log_word_of (field_of (fields_of fields.now) 0) ≡ Some word }
         requires place { HasPlace self.old }
         requires line { IsNextLine self.old line }
-        ensures { IfOk result (TakesSaid (λ _. carry carried (item_of rules (fields_of fields.now))) self.old line self.new) }
+        ensures { IfOk result (TakesSaid
+            (λ _. carry beside.entry.carried (item_from rules (option_map (λ from. from.now) beside.entry.from) (fields_of fields.now)))
+            self.old line self.new) }
     {
-        let (head, carried) = match parse_carrying(rules, word, fields, carried) {
+        let (head, carried) = match parse_carrying(rules, word, fields, beside) {
             Ok(said) => said,
             Err(why) => return Ok(Some(why)),
         };
-        let node = field(fields, NODE_PLACE);
-        let message = field(fields, message_place(rules.form));
-        let label = label(rules.form, word, fields);
-        if self.add(head, node, message, carried, label, line)? {
+        let names = RecordNames {
+            node: field(fields, NODE_PLACE),
+            message: field(fields, message_place(rules.form)),
+            from: beside.from,
+            label: label(rules.form, word, fields),
+        };
+        if self.add(head, names, carried, line)? {
             return Ok(None);
         }
         Ok(Some(BadLog::Node))
@@ -247,29 +310,32 @@ impl PartialLog {
     fn add(
         &mut self,
         head: RecordHead,
-        node: &[u8],
-        message: &[u8],
+        names: RecordNames<'_>,
         carried: Option<Stamp>,
-        label: Option<&[u8]>,
         line: u32,
     ) -> Result<bool, AllocError>
         requires place { HasPlace self.old }
         requires line { IsNextLine self.old line }
         ensures { IfOk result (AddsNext self.old
-            (carrying carried (told_by head node.now message.now (option_map (λ label. label.now) label.entry))) line self.new) }
+            (carrying carried (told_by head names.entry.node.now names.entry.message.now (option_map (λ from. from.now) names.entry.from)
+            (option_map (λ label. label.now) names.entry.label))) line self.new) }
     {
-        let Some(node) = number_node(&mut self.nodes, &mut self.hints, node)? else {
+        let Some(node) = number_node(&mut self.nodes, &mut self.hints, names.node)? else {
             return Ok(false);
         };
-        let kind = number_message(&mut self.messages, head.word, message)?;
+        let kind = number_message(&mut self.messages, head.word, names.message)?;
         let place = EventId(self.log.len());
-        self.labels.give(*self.questions.allocator(), place, label)?;
+        let alloc = *self.questions.allocator();
+        self.labels.give(alloc, place, names.label)?;
+        self.senders
+            .give(alloc, place, sender(head.word, names.from, names.message))?;
         self.log.push(LogEvent {
             node,
             reading: head.reading,
             has_reading: head.has_reading,
             kind,
             stamp: head.stamp,
+            has_stamp: head.has_stamp,
             carried,
             line,
         })?;
@@ -287,14 +353,43 @@ impl PartialLog {
         Ok(())
     }
 
-    // What was read. Nothing of a log tells the name of a message, so the memory of these names is given back.
-    pub(crate) fn into_text(self) -> Result<LogText, AllocError>
-        ensures { IfOk result (λ text. text ≡ text_of self) }
+    // Tells the messages without a name apart, if there are such.
+    fn tell_apart(&mut self) -> Result<(), AllocError>
+        requires { HasFewNames self.old }
+        ensures { OnOk result (self.new ≡ record self.old { log = apart_log self.old }) }
     {
+        let Some(unnamed) = self.messages.number(b"") else {
+            return Ok(());
+        };
+        let alloc = *self.questions.allocator();
+        let senders = nodes_named(alloc, &self.nodes, &self.senders, self.log.len())?;
+        let (unnamed, messages) = (MessageId(unnamed as u32), self.messages.len() as u32);
+        tell_apart(alloc, &mut self.log, unnamed, messages, &senders)
+    }
+
+    // Below how many the numbers of messages then are.
+    fn message_count(&self) -> usize
+        requires { HasFewNames self.now }
+        ensures { result ≡ apart_count (unnamed_in self.now.messages) (length self.now.messages) (length self.now.log.events) }
+    {
+        let messages = self.messages.len();
+        if self.messages.number(b"").is_some() {
+            messages + self.log.len() as usize
+        } else {
+            messages
+        }
+    }
+
+    // What was read, with its messages told apart. Nothing of a log tells the name of a message, so the memory of these names is given back.
+    pub(crate) fn into_text(mut self) -> Result<LogText, AllocError>
+        requires { HasFewNames self }
+        ensures { IfOk result (λ text. text ≡ apart_text self) }
+    {
+        let messages = self.message_count();
+        self.tell_apart()?;
         let PartialLog {
             log,
             nodes,
-            messages,
             labels,
             questions,
             ..
@@ -302,7 +397,7 @@ impl PartialLog {
         Ok(LogText {
             log,
             nodes: nodes.into_names()?,
-            messages: messages.len(),
+            messages,
             labels,
             questions,
         })

@@ -1,8 +1,8 @@
-ghost use Rattle.std.specs.Prelude.{◌≤◌, ℕ, All, List, [], Option, IfErr, IfOk, MatchResult, length};
+ghost use Rattle.std.specs.Prelude.{◌≤◌, ℕ, All, List, [], Option, IfErr, IfOk, MatchResult, OnOk, length};
 ghost use Rattle.hlc_log.specs.Events.{IsInRange, IsNumbered};
 ghost use Rattle.hlc_csv.specs.RecordReader.{HasReadTo};
-ghost use Rattle.hlc_log_text.specs.ReadLog.{ExplainsFault, IsReadWhole};
-ghost use Rattle.hlc_log_text.specs.PartialLog.{IsPartialLog, text_of};
+ghost use Rattle.hlc_log_text.specs.ReadLog.{ExplainsFault, IsReadInto, IsReadWhole};
+ghost use Rattle.hlc_log_text.specs.PartialLog.{HasFewNames, IsPartialLog};
 
 use crate::fault::LogTextFault;
 use crate::log_rules::LogRules;
@@ -26,8 +26,9 @@ fn read_records<R: Read + Drop>(
 ) -> Result<(), LogTextFault>
     requires none_yet { IsPartialLog [] [] reading.old }
     requires most { most ≤ MAX_CAPACITY }
-    ensures { (bytes : Option (List ℕ)) → HasReadTo R.remaining input.old bytes [] []
-        → MatchResult result (λ _. IsReadWhole rules most bytes (text_of reading.new)) (ExplainsFault rules most bytes) }
+    ensures read { (bytes : Option (List ℕ)) → HasReadTo R.remaining input.old bytes [] []
+        → MatchResult result (λ _. IsReadInto rules most bytes reading.new) (ExplainsFault rules most bytes) }
+    ensures few { OnOk result (HasFewNames reading.new) }
 {
     for _count in 0..most {
         let Some(found) = input.read_record(fields)? else {
@@ -63,8 +64,9 @@ fn read_text<R: Read + Drop>(
 
 /// Reads a log of at most so many records to its end.
 ///
-/// A node or a message has the number under which its name was first mentioned, from 0. An event has the line on which its
-/// record begins, counted from 1 as an editor does. Questions may stand anywhere among the records, but not before a header.
+/// A node or a message has the number under which its name was first mentioned, from 0; a sent message without a name has one of its own, above
+/// those. An event has the line on which its record begins, counted from 1 as an editor does. Questions may stand anywhere among the records,
+/// but not before a header. Only a log with such messages takes memory for their senders and their stamps.
 pub fn read_log<R: Read + Drop>(
     alloc: Global,
     reader: R,

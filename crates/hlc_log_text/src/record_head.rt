@@ -1,6 +1,6 @@
 ghost use Rattle.std.specs.Prelude.{◌≡◌, option_map};
 ghost use Rattle.csv.specs.Records.{fields_of};
-ghost use Rattle.hlc_log_text.specs.NamedEvent.{assumed_reading, carried_head_of, has_good_names, head_of, head_with, is_name, label_of, message_place, reading_of, reading_with, restart_head, tolerated};
+ghost use Rattle.hlc_log_text.specs.NamedEvent.{assumed_reading, carried_head_of, has_good_names, head_of, head_with, is_name, is_received_name, is_sent_name, label_of, message_place, reading_of, reading_with, restart_head, stamp_told, tolerated};
 ghost use Rattle.hlc_log_text.specs.LogWord.{has_fields_of};
 
 use crate::bad_log::BadLog;
@@ -31,7 +31,19 @@ pub(crate) struct RecordHead {
     pub(crate) reading: u64,
     // Whether it tells that.
     pub(crate) has_reading: bool,
+    // (0, 0) if it tells none.
     pub(crate) stamp: Stamp,
+    // Whether it tells that.
+    pub(crate) has_stamp: bool,
+}
+
+// What a record of a log with a header tells beside the fields that have places in a log without one.
+#[derive(Clone, Copy)]
+pub(crate) struct Beside<'a> {
+    // The stamp that its message carried, if it tells that; `None` if that is badly written.
+    pub(crate) carried: Option<Option<Stamp>>,
+    // The field of the column `from`, if there is such a column.
+    pub(crate) from: Option<&'a [u8]>,
 }
 
 // The reading that a field writes.
@@ -87,15 +99,54 @@ pub(crate) fn message_place(form: StampForm) -> usize
     STAMP_PLACE + form.field_count()
 }
 
-// Whether the names of a record of a word may be such.
+// Whether a field may be the name of a sent message, which may be empty if there is the column `from`.
 #[inline]
-fn names_are_good(form: StampForm, word: LogWord, fields: &ByteRecord) -> bool
-    ensures { result ≡ has_good_names form word (fields_of fields.now) }
+fn may_be_sent(from: Option<&[u8]>, name: &[u8]) -> bool
+    ensures { result ≡ is_sent_name (option_map (λ from. from.now) from.entry) name.now }
 {
-    may_be_name(field(fields, NODE_PLACE))
-        && (word == LogWord::Local
-            || word == LogWord::Restart
-            || may_be_name(field(fields, message_place(form))))
+    match from {
+        Some(_) => name.len() <= MAX_NAME_LEN,
+        None => may_be_name(name),
+    }
+}
+
+// Whether a field may be the name of a received message, which may be empty if the field of the column `from` names the sending node.
+#[inline]
+fn may_be_received(from: Option<&[u8]>, name: &[u8]) -> bool
+    ensures { result ≡ is_received_name (option_map (λ from. from.now) from.entry) name.now }
+{
+    match from {
+        Some(from) if name.is_empty() => may_be_name(from),
+        _ => may_be_name(name),
+    }
+}
+
+// Whether the names of a record of a word may be such, with the field of the column `from`, if there is such a column.
+#[inline]
+fn names_are_good(form: StampForm, word: LogWord, from: Option<&[u8]>, fields: &ByteRecord) -> bool
+    ensures { result ≡ has_good_names form word (option_map (λ from. from.now) from.entry) (fields_of fields.now) }
+{
+    if !may_be_name(field(fields, NODE_PLACE)) {
+        return false;
+    }
+    let message = field(fields, message_place(form));
+    match word {
+        LogWord::Local | LogWord::Restart => true,
+        LogWord::Send => may_be_sent(from, message),
+        LogWord::Receive => may_be_received(from, message),
+    }
+}
+
+// What the fields of a stamp tell in a record of a word, if they are well written. At a receive they may be empty.
+#[inline]
+fn told_stamp(form: StampForm, word: LogWord, fields: &ByteRecord) -> Option<Option<Stamp>>
+    ensures { result ≡ stamp_told form word (fields_of fields.now) }
+{
+    if word == LogWord::Receive && form.is_empty(fields, STAMP_PLACE) {
+        return Some(None);
+    }
+    let stamp = form.parse(fields, STAMP_PLACE)?;
+    Some(Some(stamp))
 }
 
 // The numbers of a record of a word.
@@ -103,15 +154,17 @@ fn names_are_good(form: StampForm, word: LogWord, fields: &ByteRecord) -> bool
 fn make_head(rules: LogRules, word: LogWord, fields: &ByteRecord) -> Option<RecordHead>
     ensures { result ≡ head_with rules word (fields_of fields.now) }
 {
-    let stamp = rules.form.parse(fields, STAMP_PLACE)?;
-    let told = field(fields, READING_PLACE);
-    let reading = reading_with(rules.tolerance, told, stamp)?;
+    let told = told_stamp(rules.form, word, fields)?;
+    let stamp = told.unwrap_or(Stamp { l: 0, c: 0 });
+    let read = field(fields, READING_PLACE);
+    let reading = reading_with(rules.tolerance, read, stamp)?;
     match word {
         LogWord::Local | LogWord::Send | LogWord::Receive => Some(RecordHead {
             word,
             reading,
-            has_reading: !told.is_empty(),
+            has_reading: !read.is_empty(),
             stamp,
+            has_stamp: told.is_some(),
         }),
         LogWord::Restart => restart_head(stamp),
     }
@@ -130,6 +183,7 @@ fn restart_head(stamp: Stamp) -> Option<RecordHead>
         reading: assumed_reading(stamp),
         has_reading: false,
         stamp,
+        has_stamp: true,
     })
 }
 
@@ -151,14 +205,19 @@ pub(crate) fn label(form: StampForm, word: LogWord, fields: &ByteRecord) -> Opti
 }
 
 // Reads a record of a word: the number of fields is checked first, then the numbers, then the names.
-fn parse_head(rules: LogRules, word: LogWord, fields: &ByteRecord) -> Result<RecordHead, BadLog>
-    ensures { result ≡ head_of rules word (fields_of fields.now) }
+fn parse_head(
+    rules: LogRules,
+    word: LogWord,
+    from: Option<&[u8]>,
+    fields: &ByteRecord,
+) -> Result<RecordHead, BadLog>
+    ensures { result ≡ head_of rules word (option_map (λ from. from.now) from.entry) (fields_of fields.now) }
 {
     if !fields_are_right(rules.form, word, fields.len()) {
         return Err(BadLog::Fields);
     }
     let head = make_head(rules, word, fields).ok_or(BadLog::Number)?;
-    if !names_are_good(rules.form, word, fields) {
+    if !names_are_good(rules.form, word, from, fields) {
         return Err(BadLog::Name);
     }
     Ok(head)
@@ -169,11 +228,11 @@ pub(crate) fn parse_carrying(
     rules: LogRules,
     word: LogWord,
     fields: &ByteRecord,
-    carried: Option<Option<Stamp>>,
+    beside: Beside<'_>,
 ) -> Result<(RecordHead, Option<Stamp>), BadLog>
-    ensures { result ≡ carried_head_of rules word (fields_of fields.now) carried }
+    ensures { result ≡ carried_head_of rules word (option_map (λ from. from.now) beside.entry.from) (fields_of fields.now) beside.entry.carried }
 {
-    match (parse_head(rules, word, fields), carried) {
+    match (parse_head(rules, word, beside.from, fields), beside.carried) {
         (Ok(head), Some(carried)) => Ok((head, carried)),
         (Err(why), Some(_)) => Err(why),
         (Err(BadLog::Fields), None) => Err(BadLog::Fields),

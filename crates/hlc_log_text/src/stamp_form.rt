@@ -53,7 +53,7 @@ fn dotted(field: &[u8]) -> Option<Stamp>
 }
 
 impl StampForm {
-    ghost use Rattle.hlc_log_text.specs.StampForms.{fields_stamp, form_stamp, greatest_c, stamp_field_count};
+    ghost use Rattle.hlc_log_text.specs.StampForms.{fields_stamp, form_stamp, greatest_c, is_empty_stamp, stamp_field_count};
 
     /// How many fields a stamp takes.
     pub fn field_count(self) -> usize
@@ -75,6 +75,18 @@ impl StampForm {
             StampForm::Pair => pair(first, field(fields, place + 1)),
             StampForm::Dotted => dotted(first),
             StampForm::Packed(bits) => Some(bits.unpack(number(first)?)),
+        }
+    }
+
+    // Whether the fields of a stamp at a place are empty.
+    pub(crate) fn is_empty(self, fields: &ByteRecord, place: usize) -> bool
+        requires { place < 2 ^ 64 - 1 }
+        ensures { result ≡ is_empty_stamp self (fields_of fields.now) place }
+    {
+        let is_first_empty = field(fields, place).is_empty();
+        match self {
+            StampForm::Pair => is_first_empty && field(fields, place + 1).is_empty(),
+            StampForm::Dotted | StampForm::Packed(_) => is_first_empty,
         }
     }
 

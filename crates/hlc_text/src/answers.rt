@@ -41,13 +41,13 @@ impl Answers {
     #[inline(always)]
     pub(crate) fn push<W: Write>(
         &mut self,
-        reply: &Reply<'_>,
+        reply: Reply<'_>,
         writer: &mut W,
     ) -> Result<(), OutputFault>
         requires { self.old.records < 2 ^ 64 - 1 }
-        ensures rows { OnOk result (AddsRows W.contents writer.old writer.new self.old.rows self.new.rows (rows_of_reply reply.now)) }
+        ensures rows { OnOk result (AddsRows W.contents writer.old writer.new self.old.rows self.new.rows (rows_of_reply reply.entry)) }
         ensures records { self.new.records ≡ self.old.records + 1 }
-        ensures refused { self.new.refused ≡ self.old.refused + refusals_in (rows_of_reply reply.now) }
+        ensures refused { self.new.refused ≡ self.old.refused + refusals_in (rows_of_reply reply.entry) }
     {
         self.records += 1;
         if reply.is_refusal() {
@@ -73,9 +73,9 @@ impl Answers {
             records,
             refused,
         } = self;
-        let end = end?;
+        let read = all_read(end?);
         rows.finish(writer)?;
-        all_read(end)?;
+        read?;
         Ok(Counts {
             records,
             events: u64::from(events),

@@ -1,4 +1,4 @@
-ghost use Rattle.std.specs.Prelude.{◌≡◌, IfOk};
+ghost use Rattle.std.specs.Prelude.{◌≡◌, [], ◌∷◌, ◌++◌, IfOk, OnOk};
 ghost use Rattle.hlc_stamp.specs.Ids.{places_of};
 ghost use Rattle.hlc_causality.specs.ReceiveEvents.{plain_rules};
 ghost use Rattle.hlc_execution.specs.Execution.{HasLeastClockStamps};
@@ -6,7 +6,7 @@ ghost use Rattle.hlc_arena.specs.History.{causality_of, stamps_of};
 ghost use Rattle.hlc_text.specs.Questions.{chain_fields, check_row, drift_row, inbox_row, influenced_fields, relation_fields, rows_for};
 ghost use Rattle.hlc_text.specs.Statement as asked;
 ghost use Rattle.hlc_text.specs.Statement.{plain_question};
-ghost use Rattle.hlc_text.specs.Reply.{number_fields, rows_of_reply};
+ghost use Rattle.hlc_text.specs.Reply.{rows_of_reply};
 
 use crate::event_number::EventNumber;
 use crate::number_row::NumberRow;
@@ -20,21 +20,31 @@ use hlc_csv::yes_or_no;
 use hlc_execution::Execution;
 use hlc_stamp::{EventId, NodeId, Stamp};
 use std::alloc::{AllocError, Global};
-use std::iter::once;
 
 // The row of a node's inbox.
-fn inbox_row(alloc: Global, node: NodeId, inbox: Inbox<'_>) -> Result<NumberRow, AllocError>
-    ensures { IfOk result (λ row. number_fields row ≡ inbox_row node.0 inbox.entry) }
+fn inbox_row(alloc: Global, node: NodeId, inbox: Inbox<'_>) -> Result<Reply<'static>, AllocError>
+    ensures { IfOk result (λ reply. rows_of_reply reply ≡ inbox_row node.0 inbox.entry ∷ []) }
 {
     let mut numbers = vec![in alloc; u64::from(node.0)]?;
     for sent in inbox {
         numbers.push(u64::from(sent.0))?;
     }
-    Ok(NumberRow {
+    Ok(Reply::Numbers(NumberRow {
         word: b"inbox",
         numbers,
         last: None,
-    })
+    }))
+}
+
+// Adds the numbers of events.
+fn push_events(numbers: &mut Vec<u64>, events: &[EventId]) -> Result<(), AllocError>
+    ensures { OnOk result (numbers.new.items ≡ numbers.old.items ++ places_of events.now) }
+{
+    numbers.reserve(events.len())?;
+    for event in events {
+        numbers.push(u64::from(event.0))?;
+    }
+    Ok(())
 }
 
 // The row of an event's chain.
@@ -43,27 +53,31 @@ fn chain_row(
     event: EventId,
     stamp: Stamp,
     chain: &[EventId],
-) -> Result<NumberRow, AllocError>
-    ensures { IfOk result (λ row. number_fields row ≡ chain_fields event.0 stamp (places_of chain.now)) }
+) -> Result<Reply<'static>, AllocError>
+    ensures { IfOk result (λ reply. rows_of_reply reply ≡ chain_fields event.0 stamp (places_of chain.now) ∷ []) }
 {
-    let asked = [u64::from(event.0), stamp.l, u64::from(stamp.c)];
-    let events = chain.iter().map(|event| u64::from(event.0));
-    Ok(NumberRow {
+    let mut numbers = vec![in alloc; u64::from(event.0), stamp.l, u64::from(stamp.c)]?;
+    push_events(&mut numbers, chain)?;
+    Ok(Reply::Numbers(NumberRow {
         word: b"chain",
-        numbers: asked.into_iter().chain(events).collect(alloc)?,
+        numbers,
         last: None,
-    })
+    }))
 }
 
 // The row of whether a list explains the stamp of the event of a number.
-fn check_row(alloc: Global, number: EventNumber, explains: bool) -> Result<NumberRow, AllocError>
-    ensures { IfOk result (λ row. number_fields row ≡ check_row number.0 explains) }
+fn check_row(
+    alloc: Global,
+    number: EventNumber,
+    explains: bool,
+) -> Result<Reply<'static>, AllocError>
+    ensures { IfOk result (λ reply. rows_of_reply reply ≡ check_row number.0 explains ∷ []) }
 {
-    Ok(NumberRow {
+    Ok(Reply::Numbers(NumberRow {
         word: b"check",
         numbers: vec![in alloc; number.0]?,
         last: Some(yes_or_no(explains)),
-    })
+    }))
 }
 
 // The row of how two events stand in happened-before.
@@ -72,14 +86,14 @@ fn relation_row(
     first: EventId,
     second: EventId,
     relation: Relation,
-) -> Result<NumberRow, AllocError>
-    ensures { IfOk result (λ row. number_fields row ≡ relation_fields first.0 second.0 relation) }
+) -> Result<Reply<'static>, AllocError>
+    ensures { IfOk result (λ reply. rows_of_reply reply ≡ relation_fields first.0 second.0 relation ∷ []) }
 {
-    Ok(NumberRow {
+    Ok(Reply::Numbers(NumberRow {
         word: b"relation",
         numbers: vec![in alloc; u64::from(first.0), u64::from(second.0)]?,
         last: Some(relation.word()),
-    })
+    }))
 }
 
 // The row of the events that an event happened before.
@@ -87,34 +101,42 @@ fn influenced_row(
     alloc: Global,
     event: EventId,
     influenced: &[EventId],
-) -> Result<NumberRow, AllocError>
-    ensures { IfOk result (λ row. number_fields row ≡ influenced_fields event.0 (places_of influenced.now)) }
+) -> Result<Reply<'static>, AllocError>
+    ensures { IfOk result (λ reply. rows_of_reply reply ≡ influenced_fields event.0 (places_of influenced.now) ∷ []) }
 {
-    let events = influenced.iter().map(|event| u64::from(event.0));
-    Ok(NumberRow {
+    let mut numbers = vec![in alloc; u64::from(event.0)]?;
+    push_events(&mut numbers, influenced)?;
+    Ok(Reply::Numbers(NumberRow {
         word: b"influenced",
-        numbers: once(u64::from(event.0)).chain(events).collect(alloc)?,
+        numbers,
         last: None,
-    })
+    }))
 }
 
 // The row of a node's drift.
-fn drift_row(alloc: Global, node: NodeId, drift: Option<Drift>) -> Result<NumberRow, AllocError>
-    ensures { IfOk result (λ row. number_fields row ≡ drift_row node.0 drift) }
+fn drift_row(
+    alloc: Global,
+    node: NodeId,
+    drift: Option<Drift>,
+) -> Result<Reply<'static>, AllocError>
+    ensures { IfOk result (λ reply. rows_of_reply reply ≡ drift_row node.0 drift ∷ []) }
 {
     let node = u64::from(node.0);
-    let (numbers, last) = match drift {
+    match drift {
         Some(drift) => {
             let (event, origin) = (u64::from(drift.event.0), u64::from(drift.origin.0));
-            (vec![in alloc; node, drift.ahead, event, origin]?, None)
+            Ok(Reply::Numbers(NumberRow {
+                word: b"drift",
+                numbers: vec![in alloc; node, drift.ahead, event, origin]?,
+                last: None,
+            }))
         }
-        None => (vec![in alloc; node]?, Some(b"none".as_slice())),
-    };
-    Ok(NumberRow {
-        word: b"drift",
-        numbers,
-        last,
-    })
+        None => Ok(Reply::Numbers(NumberRow {
+            word: b"drift",
+            numbers: vec![in alloc; node]?,
+            last: Some(b"none"),
+        })),
+    }
 }
 
 // The reply on a node's inbox.
@@ -122,7 +144,7 @@ fn inbox_reply(alloc: Global, cluster: &Cluster, node: NodeId) -> Result<Reply<'
     ensures { IfOk result (λ reply. rows_of_reply reply ≡ rows_for cluster.now (asked.Inbox node.0)) }
 {
     match cluster.inbox(node) {
-        Some(inbox) => Ok(Reply::Numbers(inbox_row(alloc, node, inbox)?)),
+        Some(inbox) => inbox_row(alloc, node, inbox),
         None => Ok(refused(Refusal::NoNode)),
     }
 }
@@ -177,7 +199,7 @@ fn chain_reply(alloc: Global, cluster: &Cluster, event: EventId) -> Result<Reply
     match chain(alloc, execution, event) {
         Ok(chain) => {
             let stamp = execution.stamp(event);
-            Ok(Reply::Numbers(chain_row(alloc, event, stamp, &chain)?))
+            chain_row(alloc, event, stamp, &chain)
         }
         Err(fault) => missing(fault),
     }
@@ -193,7 +215,7 @@ fn check_reply<'a>(
     ensures { IfOk result (λ reply. rows_of_reply reply ≡ rows_for cluster.now (asked.Check number.0 (places_of events.now))) }
 {
     let explains = check_chain(execution_of(cluster), number.event(), events);
-    Ok(Reply::Numbers(check_row(alloc, number, explains)?))
+    check_row(alloc, number, explains)
 }
 
 // The reply on how two events stand in happened-before.
@@ -206,7 +228,7 @@ fn relation_reply(
     ensures { IfOk result (λ reply. rows_of_reply reply ≡ rows_for cluster.now (asked.Relation first.0 second.0)) }
 {
     match relation(execution_of(cluster), first, second) {
-        Ok(found) => Ok(Reply::Numbers(relation_row(alloc, first, second, found)?)),
+        Ok(found) => relation_row(alloc, first, second, found),
         Err(fault) => missing(fault),
     }
 }
@@ -220,7 +242,7 @@ fn influence_reply(
     ensures { IfOk result (λ reply. rows_of_reply reply ≡ rows_for cluster.now (asked.Influenced event.0)) }
 {
     match influenced(alloc, execution_of(cluster), event) {
-        Ok(events) => Ok(Reply::Numbers(influenced_row(alloc, event, &events)?)),
+        Ok(events) => influenced_row(alloc, event, &events),
         Err(fault) => missing(fault),
     }
 }
@@ -230,7 +252,7 @@ fn drift_reply(alloc: Global, cluster: &Cluster, node: NodeId) -> Result<Reply<'
     ensures { IfOk result (λ reply. rows_of_reply reply ≡ rows_for cluster.now (asked.Drift node.0)) }
 {
     match drift(execution_of(cluster), node) {
-        Ok(found) => Ok(Reply::Numbers(drift_row(alloc, node, found)?)),
+        Ok(found) => drift_row(alloc, node, found),
         Err(fault) => missing(fault),
     }
 }

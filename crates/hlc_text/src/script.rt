@@ -61,7 +61,10 @@ fn answer_records<R: Read, W: Write>(
         }
         session.answer(fields, writer)?;
     }
-    Ok(read_next(input, fields)?.unwrap_or(End::PastLimit))
+    match read_next(input, fields)? {
+        Some(end) => Ok(end),
+        None => Ok(End::PastLimit),
+    }
 }
 
 // Answers a script of at most so many records, and keeps notes or not.

@@ -1,6 +1,7 @@
 -- Lists, each of whose elements has a property.
 use Rattle.std.proofs.Common.{◌≡◌, subst, cond, Bool, true, false, List, [], ◌∷◌, ◌++◌, Some, refl}
 use Rattle.std.specs.Prelude.{⊤, find}
+use Rattle.std.specs.List.{AllByRecursion}
 
 -- P holds of each
 abbrev pub Each : {X : Type 0} → (X → Type 0) → List X → Type 0
@@ -10,6 +11,10 @@ Each P (x ∷ xs) = P x × Each P xs
 pub Each-push : {X : Type 0} (P : X → Type 0) (xs : List X) (x : X) → Each P xs → P x → Each P (xs ++ x ∷ [])
 Each-push P [] x all h = (h, tt)
 Each-push P (y ∷ ys) x all h = (all.0, Each-push P ys x all.1 h)
+
+pub all_push : {X : Type 0} (P : X → Type 0) (xs : List X) (x : X) → AllByRecursion P xs → P x → AllByRecursion P (xs ++ x ∷ [])
+all_push P [] x all h = (h, tt)
+all_push P (y ∷ ys) x all h = (all.0, all_push P ys x all.1 h)
 
 -- what a search finds has the property, and passes
 pub found_holds : {X : Type 0} (P : X → Type 0) (p : X → Bool) (xs : List X) (x : X) → Each P xs → find p xs ≡ Some x → P x

@@ -1,12 +1,15 @@
 -- What clap's builder makes of an argument.
-use Rattle.std.proofs.Common.{◌≡◌, ◌∙◌, Bool, false, Option, Some, ap, subst, sym}
-use Rattle.std.specs.Prelude.{ℤ}
+use Rattle.std.proofs.Common.{◌≡◌, ◌∙◌, inl, inr, Bool, false, Option, Some, ap, ap₂, refl, subst, sym}
+use Rattle.std.specs.Prelude.{◌⊎◌, ℤ}
 use Rattle.std.specs.Borrow.{Bor}
-use Rattle.clap.specs.Words.{NarrowsTo, Rule, Text, rule_of}
+use Rattle.clap.specs.Words.{NarrowsTo, Rule, Text, new_rule, rule_of}
 use Rattle.clap.specs.declared.builder.action.ArgAction.{ArgAction}
 use Rattle.clap.specs.declared.builder.arg.Arg.{Arg}
 use Rattle.clap.specs.declared.builder.texts.Texts.TheVariants.{One}
 use Rattle.clap.specs.declared.builder.value_parser.ValueParser.{ValueParser}
+use Rattle.hlc_command_line.specs.Rules.{rule_taking}
+use Rattle.hlc_command_line.specs.declared.option_rule.Takes.{Takes}
+use Rattle.hlc_command_line.specs.declared.option_rule.Takes.TheVariants as takes
 
 -- clap was told just this of the argument, and of no subcommand that has it too
 abbrev pub IsArgument : Arg → Rule → Type 0
@@ -35,6 +38,26 @@ module _ (old new : Arg) (r : Rule) (is : IsArgument old r) where
         ∙ ap (λ (p : Option ValueParser). record r { parser = p }) (sym same),
     ap (λ (a : Arg). a.global) e ∙ is.1,
   )
+
+-- what is told of each option: whether it is required, and what is done where it is given
+abbrev told_rule : Text → Bool → Option ArgAction → Rule
+told_rule name required action = record (new_rule name) { long = Some name; required = required; action = action }
+
+module _ (name : Text) (t : Takes) (required : Bool) (action : ArgAction)
+    (needed : (n : Text) → (rule_taking n t).required ≡ required) (acts : (n : Text) → (rule_taking n t).action ≡ Some action) where
+  told_same : told_rule name (rule_taking name t).required (rule_taking name t).action ≡ told_rule name required (Some action)
+  told_same = ap₂ (told_rule name) (needed name) (acts name)
+
+  pub takes_nothing : t ≡ takes.Nothing → told_rule name required (Some action) ≡ rule_taking name t
+  takes_nothing is = sym told_same ∙ rw is refl
+
+  pub takes_some : (value : Bor Text) (parser read : ValueParser) → read ≡ parser
+      → ((r : Bool) × (t ≡ takes.One value parser r)) ⊎ (t ≡ takes.Many value parser)
+      → record (record (told_rule name required (Some action)) { value_names = 1 }) { parser = Some read } ≡ rule_taking name t
+  takes_some value parser read same (inl is) =
+      ap₂ (λ (x : Rule) (p : ValueParser). record (record x { value_names = 1 }) { parser = Some p }) (sym told_same) same ∙ rw is.1 refl
+  takes_some value parser read same (inr is) =
+      ap₂ (λ (x : Rule) (p : ValueParser). record (record x { value_names = 1 }) { parser = Some p }) (sym told_same) same ∙ rw is refl
 
 -- a parser that is narrowed to a range, if the parser and the range's ends are known
 pub narrowed : (all given made : ValueParser) (first last low high : ℤ) → all ≡ given → first ≡ low → last ≡ high

@@ -1,14 +1,14 @@
-use Rattle.std.proofs.Common.{◌∙◌, ap, refl, subst}
-use Rattle.std.specs.Prelude.{IfOk}
-use Rattle.clap.specs.Words.{App}
-use Rattle.hlc_command_line.specs.Rules.{with_options_of}
-use Rattle.hlc_command_line.specs.Subcommand.{IsCommand}
+use Rattle.std.proofs.Common.{subst}
+use Rattle.clap.specs.Built.{AddsArg, AddsInTurn}
+use Rattle.hlc_command_line.specs.Line.{subcommand_named}
+use Rattle.hlc_command_line.specs.Subcommand.{IsCommand, app_of_subcommand}
+use Rattle.hlc_command_line.proofs.App.Commands.{adds_options, if_ok}
 use Rattle.hlc_command_line.proofs.line_command.subcommand_of.Goals as goal
-
-pub with_options-requires : goal.with_options-requires
-with_options-requires c = (refl, c.bare_subcommand.ensures.1)
 
 pub returns : goal.returns
 returns c =
-    let told = ap (with_options_of c.subcommand_rule-rule.result.options.now) c.bare_subcommand.ensures.0 ∙ c.subcommand_rule-rule.ensures in
-    subst (λ (a : App). IfOk c.with_options.result (λ d. IsCommand d a)) told c.with_options.ensures
+    let bare = c.bare_command.result in
+    let options = c.in_ok-options.options.items in
+    if_ok {P = AddsInTurn AddsArg bare options} {Q = λ d. IsCommand d (app_of_subcommand (subcommand_named c.args.name))} c.args-2.result c.args-2.ensures
+    (λ d adds. subst (IsCommand d) c.subcommand_rule-rule.ensures
+    (adds_options bare d _ options _ c.bare_command.ensures c.in_ok-options.ensures.rules c.in_ok-options.ensures.local adds))

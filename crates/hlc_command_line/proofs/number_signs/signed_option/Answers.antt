@@ -1,17 +1,13 @@
-use Rattle.std.proofs.Common.{[], ◌∷◌, ◌++◌, List, get_or, refl, subst, sym, take}
+use Rattle.std.proofs.Common.{[], List, get_or, refl, subst, sym, take}
 use Rattle.std.specs.Borrow.{Bor}
 use Rattle.std.specs.List.{AllByRecursion}
 use Rattle.std.proofs.lemmas.List.{take_all}
 use Rattle.clap.specs.Matches.{found_of}
 use Rattle.clap.specs.Walk.{Text, rows_of, texts}
 use Rattle.hlc_command_line.specs.NumberOption.{IsSigned}
+use Rattle.hlc_command_line.proofs.App.Each.{all_push}
 use Rattle.hlc_command_line.proofs.AskedFacts.{text_at, texts_more}
 use Rattle.hlc_command_line.proofs.number_signs.signed_option.Goals as goal
-
--- so is one more
-all_push : {X : Type 0} (P : X → Type 0) (xs : List X) (x : X) → AllByRecursion P xs → P x → AllByRecursion P (xs ++ x ∷ [])
-all_push P [] x all is = (is, tt)
-all_push P (y ∷ ys) x all is = (all.0, all_push P ys x all.1 is)
 
 abbrev no_name : Bor Text
 no_name = record { ref_ptr = (0, 0); now = [] }

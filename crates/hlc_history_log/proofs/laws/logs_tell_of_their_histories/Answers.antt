@@ -1,4 +1,4 @@
-use Rattle.hlc_history_log.proofs.LogLaws.{logs_tell_events_alone, logs_tell_nothing_carried, logs_tell_readings, rows_make_events}
+use Rattle.hlc_history_log.proofs.LogLaws.{logs_tell_events_alone, logs_tell_nothing_carried, logs_tell_readings, logs_tell_stamps, rows_make_events}
 use Rattle.hlc_history_log.proofs.ReadBack.{logs_read_back}
 use Rattle.hlc_history_log.proofs.laws.logs_tell_of_their_histories.Goals as goal
 
@@ -8,5 +8,6 @@ returns c = record {
   events = rows_make_events;
   alone = logs_tell_events_alone;
   readings = logs_tell_readings;
+  stamps = logs_tell_stamps;
   carried = logs_tell_nothing_carried;
 }

@@ -16,7 +16,7 @@ returns-then-not-carries_wrongly g c =
     let at = g.W.Write.contents c.args.writer.now in
     let rows = c.args.rows.now in
     let ordered = c.requires.ordered in
-    let all : c.args.counts.least ≡ n = c.if-counts-len.true ∙ c.len.ensures.value in
+    let all = c.are_least.ensures.0 c.if-are_least.true in
     let none : ¬ CarriesWrongly log = λ wrong.
     (let both : ◌≡◌ {A = Bool} true false = sym (c.carries_wrongly.ensures.1 wrong) ∙ c.if-not-carries_wrongly.true in
     absurd (cc)) in

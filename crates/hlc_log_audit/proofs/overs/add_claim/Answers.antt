@@ -3,8 +3,16 @@ use Rattle.std.specs.Prelude.{slice_set}
 use Rattle.hlc_log.specs.Events.{event_at}
 use Rattle.hlc_log_audit.specs.OverLimit.{AreOversBefore, claimed_ahead}
 use Rattle.hlc_log_audit.specs.declared.over.Over.{Over}
-use Rattle.hlc_log_audit.proofs.OverLimits.{overs_with}
+use Rattle.hlc_log_audit.proofs.OverLimits.{overs_with, overs_without}
 use Rattle.hlc_log_audit.proofs.overs.add_claim.Goals as goal
+
+pub returns-then-ahead-limit : goal.returns-then-ahead-limit
+returns-then-ahead-limit c =
+    let events = c.args.log.now.events in
+    let place = c.args.place in
+    let ahead = c.claimed_ahead-ahead.result in
+    let is_ahead : ahead ≡ claimed_ahead (event_at events place.0) = c.claimed_ahead-ahead.ensures ∙ ap claimed_ahead c.at.ensures in
+    overs_without c.args.limit events place c.requires.exists ahead is_ahead c.args.overs.now c.if-ahead-limit.true c.requires.before
 
 pub returns : goal.returns
 returns c =

@@ -1,9 +1,8 @@
 use Rattle.std.proofs.Common.{◌≡◌, ℕ, [], ◌∷◌, ◌++◌, length, arith, ap, subst, sym, ◌∙◌, refl}
 use Rattle.hlc_log_report.specs.declared.counts.Counts.{Counts}
 use Rattle.hlc_log_report.specs.Counts.{AreFindings, with_finding}
-use Rattle.hlc_log_report.specs.InOrder.{clocks_of, seen_of}
 use Rattle.hlc_log_report.proofs.Counting.{counts_push, findings_push}
-use Rattle.hlc_log_report.proofs.EventsInOrder.{length-clocks_of, length-skeleton_of}
+use Rattle.hlc_log_report.proofs.Ordering.{order_len}
 use Rattle.hlc_log_report.proofs.counts.count_findings.Goals as goal
 
 pub loop-position-init : goal.loop-position-init
@@ -15,7 +14,7 @@ loop-position-preserved c =
     let before = c.loop-position.invariant in
     let found = c.finding.result in (
       before.0 ++ found ∷ [],
-      findings_push (clocks_of log) (seen_of log) log.least c.args.full c.loop-position.position before.0 found before.1 c.finding.ensures,
+      findings_push log c.args.full c.loop-position.position before.0 found before.1 c.finding.ensures,
       c.add.ensures ∙ ap (λ (counts : Counts). with_finding counts found) before.2 ∙ sym (counts_push before.0 found),
     )
 
@@ -26,6 +25,6 @@ returns c =
     let ends = c.loop-position-test.false in
     let most = c.loop-position.auto.position-end in
     let ordered = c.len-position-end.ensures.ordered in
-    let all : c.loop-position.position ≡ length (clocks_of log) =
-    omega (arith, ends, most, c.len-position-end.ensures.value, length-clocks_of log, length-skeleton_of log ordered) in
-    (found.0, subst (λ (n : ℕ). AreFindings (clocks_of log) (seen_of log) log.least c.args.full n found.0) all found.1, found.2)
+    let all : c.loop-position.position ≡ length log.order =
+    omega (arith, ends, most, c.len-position-end.ensures.value, order_len log.events log.order ordered.causal) in
+    (found.0, subst (λ (n : ℕ). AreFindings log c.args.full n found.0) all found.1, found.2)

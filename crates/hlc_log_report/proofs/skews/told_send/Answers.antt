@@ -1,5 +1,7 @@
-use Rattle.std.proofs.Common.{length, arith, ap}
-use Rattle.hlc_causality.specs.Causality.{Skeleton}
+use Rattle.std.proofs.Common.{ℕ, length, arith, subst, sym, ap}
+use Rattle.hlc_causality.specs.Causality.{IsSendOf, Skeleton}
+use Rattle.hlc_log_report.specs.InOrder.{reading_told, skeleton_of}
+use Rattle.hlc_log_report.specs.Skew.{IsToldSend, NamesToldSend}
 use Rattle.hlc_log_report.proofs.EventsInOrder.{length-skeleton_of}
 use Rattle.hlc_log_report.proofs.skews.told_send.Goals as goal
 
@@ -9,3 +11,12 @@ send-requires c =
     let same = ap (λ (s : Skeleton). length s) c.execution.ensures.events in
     let exists = c.requires.exists in
     omega arith
+
+pub returns-in_err-send : goal.returns-in_err-send
+returns-in_err-send c =
+    let s = skeleton_of c.args.log.now in
+    let told = reading_told c.args.log.now in
+    let f = c.args.event.0 in
+    let none : (e : ℕ) → ¬ IsToldSend s told e f =
+    λ e is. c.in_err-send.ensures e (subst (λ (t : Skeleton). IsSendOf t e f) (sym c.execution.ensures.events) is.send) in
+    subst (NamesToldSend s told f) (sym c.from_residual.ensures) none

@@ -3,6 +3,7 @@ use Rattle.hlc_stamp.specs.Order.{Pair}
 use Rattle.hlc_causality.specs.Assignment.{pair_at}
 use Rattle.hlc_causality.specs.Causality.{Skeleton}
 use Rattle.hlc_causality.specs.FollowedChains.{chain_of}
+use Rattle.std.proofs.lemmas.Result.{IfOk-weaker}
 use Rattle.hlc_arena.specs.History.{causality_of, stamps_of}
 use Rattle.hlc_arena.proofs.Histories.{length_skeleton, pair_at_place}
 use Rattle.hlc_verdict.specs.declared.audit_fault.AuditFault.{AuditFault}
@@ -14,8 +15,8 @@ use Rattle.hlc_text.proofs.HistoryAnswers.{exists_within}
 use Rattle.hlc_text.proofs.QuestionFacts.{if_event-missing, if_event-there, missing-row}
 use Rattle.hlc_text.proofs.question_reply.chain_reply.Goals as goal
 
-pub returns-in_ok-chain_row-in-Ok : goal.returns-in_ok-chain_row-in-Ok
-returns-in_ok-chain_row-in-Ok c =
+pub returns-in-Ok : goal.returns-in-Ok
+returns-in-Ok c =
     let old = c.args.cluster.now in
     let events = old.history.events in
     let event = c.args.event.0 in
@@ -32,8 +33,7 @@ returns-in_ok-chain_row-in-Ok c =
     let same : chain_fields event (pair_at x.stamps event) (chain_of x.events x.stamps event) ≡ chain_row events event =
     (λ i. chain_fields event (pair_at (lent.stamps i) event) (chain_of (lent.events i) (lent.stamps i) event))
     ∙ ap (λ (p : Pair). chain_fields event p (chain_of (causality_of events) (stamps_of events) event)) (pair_at_place events event) in
-    ap (λ (r : Fields). r ∷ []) (c.in_ok-chain_row-in-Ok.ensures ∙ found ∙ same)
-    ∙ sym (if_event-there old event (chain_row events event ∷ []) (omega arith))
+    IfOk-weaker c.chain_row.result _ _ (λ reply rows. rows ∙ (ap (λ (r : Fields). r ∷ []) (found ∙ same) ∙ sym (if_event-there old event (chain_row events event ∷ []) (omega arith)))) c.chain_row.ensures
 
 pub returns-in-Err : goal.returns-in-Err
 returns-in-Err c =

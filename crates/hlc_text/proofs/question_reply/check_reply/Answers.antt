@@ -1,10 +1,10 @@
 use Rattle.std.proofs.Common.{◌≡◌, ◌∙◌, Bool, [], ◌∷◌, ℕ, ap, min}
+use Rattle.std.proofs.lemmas.Result.{IfOk-weaker}
 use Rattle.hlc_arena.specs.History.{causality_of, stamps_of}
 use Rattle.hlc_stamp.specs.Ids.{places_of}
 use Rattle.hlc_causality.specs.FollowedChains.{is_explained_by}
 use Rattle.hlc_causality.proofs.FollowedChains.{explained_by_test}
 use Rattle.hlc_csv.specs.Number.{greatest_event}
-use Rattle.hlc_csv.specs.Rows.{Fields}
 use Rattle.hlc_text.specs.Questions.{check_row}
 use Rattle.hlc_text.proofs.question_reply.check_reply.Goals as goal
 
@@ -20,4 +20,4 @@ returns c =
     explained_by_test x.events x.stamps event list c.check_chain-explains.result (c.check_chain-explains.ensures.ticking_chain lent.rules)
     ∙ (λ i. is_explained_by (lent.events i) (lent.stamps i) event list)
     ∙ ap (λ (e : ℕ). is_explained_by (causality_of events) (stamps_of events) e list) c.event.ensures in
-    ap (λ (r : Fields). r ∷ []) (c.in_ok-check_row.ensures ∙ ap (λ (b : Bool). check_row number b) tells)
+    IfOk-weaker c.check_row.result _ _ (λ reply rows. rows ∙ ap (λ (b : Bool). check_row number b ∷ []) tells) c.check_row.ensures

@@ -1,4 +1,5 @@
 use Rattle.std.proofs.Common.{◌≡◌, ◌≤◌, ◌∙◌, [], ◌∷◌, Err, ap, arith, inl, sym}
+use Rattle.std.proofs.lemmas.Result.{IfOk-weaker}
 use Rattle.hlc_arena.specs.History.{causality_of, stamps_of}
 use Rattle.hlc_explain.specs.Findings.{node_drift}
 use Rattle.hlc_verdict.specs.declared.audit_fault.AuditFault.{AuditFault}
@@ -9,8 +10,8 @@ use Rattle.hlc_text.proofs.HistoryAnswers.{drift_row-found}
 use Rattle.hlc_text.proofs.QuestionFacts.{if_node-missing, if_node-there, missing-row}
 use Rattle.hlc_text.proofs.question_reply.drift_reply.Goals as goal
 
-pub returns-in_ok-drift_row-in-Ok : goal.returns-in_ok-drift_row-in-Ok
-returns-in_ok-drift_row-in-Ok c =
+pub returns-in-Ok : goal.returns-in-Ok
+returns-in-Ok c =
     let old = c.args.cluster.now in
     let events = old.history.events in
     let node = c.args.node.0 in
@@ -24,7 +25,7 @@ returns-in_ok-drift_row-in-Ok c =
     let is : drift_row node c.in-Ok.found ≡ row =
     drift_row-found x.events x.stamps node c.in-Ok.found (c.in-Ok.ensures.ticking_drift lent.rules)
     ∙ (λ i. drift_row node (node_drift (lent.events i) (lent.stamps i) node)) in
-    ap (λ (r : Fields). r ∷ []) (c.in_ok-drift_row-in-Ok.ensures ∙ is) ∙ sym (if_node-there old node (row ∷ []) within)
+    IfOk-weaker c.drift_row.result _ _ (λ reply rows. rows ∙ (ap (λ (r : Fields). r ∷ []) is ∙ sym (if_node-there old node (row ∷ []) within))) c.drift_row.ensures
 
 pub returns-in-Err : goal.returns-in-Err
 returns-in-Err c =

@@ -1,4 +1,5 @@
 use Rattle.std.proofs.Common.{◌≡◌, ◌≤◌, ◌∙◌, [], ◌∷◌, ap, codes, sym}
+use Rattle.std.proofs.lemmas.Bool.{false≢true}
 use Rattle.hlc_arena.specs.History.{History}
 use Rattle.hlc_core.specs.Step.{entry_in}
 use Rattle.hlc_csv.specs.Rows.{Fields}
@@ -12,7 +13,7 @@ returns-in-Some-get c =
     let node = c.args.node.0 in
     let key = c.args.key.now in
     let row = key_row old.history.events key (entry_in old node key) in
-    let within : ¬ (old.history.nodes ≤ node) = λ beyond. let bad = c.in-Some.ensures.none.1 beyond in cc bad in
+    let within : ¬ (old.history.nodes ≤ node) = λ beyond. false≢true (sym (c.in-Some.ensures.none.1 beyond)) in
     let entry = c.in-Some-get.entry in
     let table = c.in-Some.table.now in
     let is : entry_row c.history.result.now.events key entry ≡ row =
@@ -26,7 +27,7 @@ returns-in-None-get c =
     let node = c.args.node.0 in
     let key = c.args.key.now in
     let row = key_row old.history.events key (entry_in old node key) in
-    let within : ¬ (old.history.nodes ≤ node) = λ beyond. let bad = c.in-Some.ensures.none.1 beyond in cc bad in
+    let within : ¬ (old.history.nodes ≤ node) = λ beyond. false≢true (sym (c.in-Some.ensures.none.1 beyond)) in
     let is : row ≡ codes "none" ∷ key ∷ [] =
     key_row-none old.history.events node key c.in-Some.table.now c.in-Some.ensures.rows c.in-None-get.ensures.entry in
     (ap (λ (r : Fields). r ∷ []) (sym is) ∙ sym (if_node-there old node (row ∷ []) within))

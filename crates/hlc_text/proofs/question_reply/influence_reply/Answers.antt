@@ -1,5 +1,6 @@
 use Rattle.std.proofs.Common.{◌≡◌, ◌≤◌, ◌∙◌, [], ◌∷◌, Err, ap, arith, length, sym}
 use Rattle.hlc_causality.specs.Causality.{Skeleton}
+use Rattle.std.proofs.lemmas.Result.{IfOk-weaker}
 use Rattle.hlc_arena.proofs.Histories.{length_skeleton}
 use Rattle.hlc_explain.specs.Findings.{influenced_by}
 use Rattle.hlc_stamp.specs.Ids.{places_of}
@@ -11,8 +12,8 @@ use Rattle.hlc_text.proofs.HistoryAnswers.{exists_within, influenced_row-found}
 use Rattle.hlc_text.proofs.QuestionFacts.{if_event-missing, if_event-there, missing-row}
 use Rattle.hlc_text.proofs.question_reply.influence_reply.Goals as goal
 
-pub returns-in_ok-influenced_row-in-Ok : goal.returns-in_ok-influenced_row-in-Ok
-returns-in_ok-influenced_row-in-Ok c =
+pub returns-in-Ok : goal.returns-in-Ok
+returns-in-Ok c =
     let old = c.args.cluster.now in
     let events = old.history.events in
     let event = c.args.event.0 in
@@ -27,7 +28,7 @@ returns-in_ok-influenced_row-in-Ok c =
     let is : influenced_fields event (places_of list) ≡ row =
     influenced_row-found x.events event c.in-Ok.events.items list c.deref.ensures.value answer.all answer.rising
     ∙ ap (λ (s : Skeleton). influenced_fields event (influenced_by s event)) lent.events in
-    ap (λ (r : Fields). r ∷ []) (c.in_ok-influenced_row-in-Ok.ensures ∙ is) ∙ sym (if_event-there old event (row ∷ []) (omega arith))
+    IfOk-weaker c.influenced_row.result _ _ (λ reply rows. rows ∙ (ap (λ (r : Fields). r ∷ []) is ∙ sym (if_event-there old event (row ∷ []) (omega arith)))) c.influenced_row.ensures
 
 pub returns-in-Err : goal.returns-in-Err
 returns-in-Err c =

@@ -1,5 +1,6 @@
 use Rattle.std.proofs.Common.{◌≡◌, ◌≤◌, ◌⊎◌, ◌∙◌, ℕ, [], ◌∷◌, Err, ap, inl, length, subst, sym}
 use Rattle.hlc_causality.specs.Causality.{Skeleton}
+use Rattle.std.proofs.lemmas.Result.{IfOk-weaker}
 use Rattle.hlc_arena.proofs.Histories.{length_skeleton}
 use Rattle.hlc_explain.specs.Findings.{relation_of}
 use Rattle.hlc_verdict.specs.declared.audit_fault.AuditFault.{AuditFault}
@@ -10,8 +11,8 @@ use Rattle.hlc_text.proofs.HistoryAnswers.{both_exist, relation_row-found}
 use Rattle.hlc_text.proofs.QuestionFacts.{either_is_missing, if_event-there, missing-row}
 use Rattle.hlc_text.proofs.question_reply.relation_reply.Goals as goal
 
-pub returns-in_ok-relation_row-in-Ok : goal.returns-in_ok-relation_row-in-Ok
-returns-in_ok-relation_row-in-Ok c =
+pub returns-in-Ok : goal.returns-in-Ok
+returns-in-Ok c =
     let old = c.args.cluster.now in
     let events = old.history.events in
     let x = c.execution_of.result.now in
@@ -28,8 +29,8 @@ returns-in_ok-relation_row-in-Ok c =
     let is : relation_fields first.0 second.0 c.in-Ok.found ≡ row =
     relation_row-found x.events first second c.in-Ok.found answer.before answer.after answer.same
     ∙ ap (λ (s : Skeleton). relation_fields first.0 second.0 (relation_of s first.0 second.0)) lent.events in
-    ap (λ (r : Fields). r ∷ []) (c.in_ok-relation_row-in-Ok.ensures ∙ is)
-    ∙ sym (if_event-there old first.0 (if_event old second.0 (row ∷ [])) exist.0 ∙ if_event-there old second.0 (row ∷ []) exist.1)
+    let there = if_event-there old first.0 (if_event old second.0 (row ∷ [])) exist.0 ∙ if_event-there old second.0 (row ∷ []) exist.1 in
+    IfOk-weaker c.relation_row.result _ _ (λ reply rows. rows ∙ (ap (λ (r : Fields). r ∷ []) is ∙ sym there)) c.relation_row.ensures
 
 pub returns-in-Err : goal.returns-in-Err
 returns-in-Err c =

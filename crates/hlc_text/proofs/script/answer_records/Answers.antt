@@ -1,4 +1,4 @@
-use Rattle.std.proofs.Common.{◌≡◌, ◌∙◌, ℕ, ◌+◌, ap, arith}
+use Rattle.std.proofs.Common.{◌≡◌, ◌∙◌, ℕ, ◌+◌, None, Some, ap, arith}
 use Rattle.csv.specs.Records.{fields_of}
 use Rattle.hlc_text.proofs.RunFacts.{so_far-ended, so_far-more, so_far-start}
 use Rattle.hlc_text.proofs.script.answer_records.Goals as goal
@@ -20,7 +20,12 @@ loop-count-preserved g c =
           c.in_ok-answer.ensures.notes,
     )
 
-pub returns : goal.returns
-returns g c = λ bytes start.
+pub returns-in-Some-2 : goal.returns-in-Some-2
+returns-in-Some-2 g c = λ bytes start.
     let full : c.loop-count._count ≡ c.args.most = omega arith in
-    rw c.unwrap_or.ensures (so_far-ended _ _ _ bytes _ _ _ _ _ _ (fields_of c.read_next-2.new.fields) c.in_ok-read_next.field-0 (c.loop-count.invariant.2 bytes start) full c.in_ok-read_next.ensures)
+    so_far-ended _ _ c.read_next-2.new.input bytes _ _ _ _ _ _ (fields_of c.read_next-2.new.fields) (Some c.in-Some-2.end) (c.loop-count.invariant.2 bytes start) full (rw c.in-Some-2.is at c.in_ok-end-2.ensures)
+
+pub returns-in-None : goal.returns-in-None
+returns-in-None g c = λ bytes start.
+    let full : c.loop-count._count ≡ c.args.most = omega arith in
+    so_far-ended _ _ c.read_next-2.new.input bytes _ _ _ _ _ _ (fields_of c.read_next-2.new.fields) None (c.loop-count.invariant.2 bytes start) full (rw c.in-None.is at c.in_ok-end-2.ensures)

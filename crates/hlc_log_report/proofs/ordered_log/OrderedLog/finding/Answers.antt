@@ -1,4 +1,4 @@
-use Rattle.std.proofs.Common.{List, length, ap, subst, ◌∙◌}
+use Rattle.std.proofs.Common.{List, length, ap, subst, sym, ◌∙◌}
 use Rattle.hlc_stamp.specs.Order.{Pair}
 use Rattle.hlc_causality.specs.ClockEvents.{ClockEvents}
 use Rattle.hlc_causes.specs.Causes.{NamesFinding}
@@ -18,9 +18,11 @@ pub returns : goal.returns
 returns c =
     let log = c.args.self.now in
     let clocks = has_clocks _ _ _ _ c.self.invariant _ c.self.view_is in
-    let seen = seen_of log c.args.position.0 in
-    subst (λ (least : List Pair). NamesFinding (clocks_of log) seen least c.args.full c.args.position.0 c.finding.result)
-    (ap (λ (l : LogInOrder). l.least) c.self.view_is)
-    (subst (λ (t : ClockEvents). NamesFinding t seen c.self.inside.execution.stamps c.args.full c.args.position.0 c.finding.result) clocks
-    (subst (λ (pairs : List Pair). NamesFinding (clock_of c.self.inside.execution) pairs c.self.inside.execution.stamps c.args.full c.args.position.0 c.finding.result)
-    c.seen.ensures c.finding.ensures))
+    let seen = seen_of log c.args.position.0 in (
+      sym c.has_stamp.ensures ∙ c.if-not-has_stamp.false,
+      subst (λ (least : List Pair). NamesFinding (clocks_of log) seen least c.args.full c.args.position.0 c.finding.result)
+          (ap (λ (l : LogInOrder). l.least) c.self.view_is)
+          (subst (λ (t : ClockEvents). NamesFinding t seen c.self.inside.execution.stamps c.args.full c.args.position.0 c.finding.result) clocks
+          (subst (λ (pairs : List Pair). NamesFinding (clock_of c.self.inside.execution) pairs c.self.inside.execution.stamps c.args.full c.args.position.0 c.finding.result)
+          c.seen.ensures c.finding.ensures)),
+    )

@@ -1,4 +1,4 @@
-use Rattle.std.proofs.Common.{◌≡◌, ◌∙◌, ◌<◌, Bor, List, ℕ, [], ◌∷◌, ◌++◌, None, Some, ap, length, refl, subst, sym}
+use Rattle.std.proofs.Common.{◌≡◌, ◌∙◌, ◌<◌, Bor, List, ℕ, [], ◌∷◌, ◌++◌, Option, None, Some, ap, length, refl, subst, sym}
 use Rattle.std.specs.Prelude.{option_map}
 use Rattle.std.proofs.lemmas.Option.{get_or_from_slice_get, slice_get_within}
 use Rattle.hlc_stamp.specs.declared.limits.TheConstants.{MAX_NODES}
@@ -8,24 +8,26 @@ use Rattle.hlc_log_text.specs.LogItem.{events_in}
 use Rattle.hlc_log_text.specs.LogText.{name_of, node_names, with_names}
 use Rattle.hlc_log_text.specs.Names.{with_name}
 use Rattle.hlc_log_text.specs.PartialLog.{IsPartialLog, NumbersNode}
-use Rattle.hlc_log_text.specs.NamedEvent.{NamedEvent, carrying, told_by, without_label}
+use Rattle.hlc_log_text.specs.NamedEvent.{NamedEvent, carrying, told_by, without_asides}
 use Rattle.hlc_log_text.specs.declared.partial_log.PartialLog.{PartialLog}
 use Rattle.hlc_log_text.proofs.LogFacts.{is_reading-more, node_names-push}
 use Rattle.hlc_log_text.proofs.partial_log.PartialLog.add.Goals as goal
 
 pub returns-in_default : goal.returns-in_default
 returns-in_default c items lines h =
-    let label = option_map (λ (l : Bor (List ℕ)). l.now) c.args.label in
-    let r = carrying c.args.carried (told_by c.args.head c.args.node.now c.args.message.now label) in
+    let label = option_map (λ (l : Bor (List ℕ)). l.now) c.args.names.label in
+    let from = option_map (λ (l : Bor (List ℕ)). l.now) c.args.names.from in
+    let r = carrying c.args.carried (told_by c.args.head c.args.names.node.now c.args.names.message.now from label) in
     let old = c.args.self.now in
-    let over : NumbersNode old.nodes c.number_node.new.nodes c.args.node.now None = rw c.in_default.is at c.in_ok-node.ensures in
-    let names : with_name c.args.self.now.nodes c.args.node.now ≡ node_names (events_in items ++ r ∷ []) =
-    ap (λ (names : List (List ℕ)). with_name names c.args.node.now) h.held.log.nodes ∙ sym (node_names-push (events_in items) r) in
+    let over : NumbersNode old.nodes c.number_node.new.nodes c.args.names.node.now None = rw c.in_default.is at c.in_ok-node.ensures in
+    let names : with_name c.args.self.now.nodes c.args.names.node.now ≡ node_names (events_in items ++ r ∷ []) =
+    ap (λ (names : List (List ℕ)). with_name names c.args.names.node.now) h.held.log.nodes ∙ sym (node_names-push (events_in items) r) in
     let now : List (List ℕ) → PartialLog = λ nodes. record {
       log = old.log;
       nodes = nodes;
       messages = old.messages;
       labels = old.labels;
+      senders = old.senders;
       questions = old.questions;
       line = old.line;
       columns = old.columns;
@@ -42,6 +44,7 @@ returns-in_default c items lines h =
         low = h.low;
         columns = h.columns;
         last = h.last;
+        senders = h.senders;
       }),
     )
 
@@ -53,24 +56,28 @@ module _ (c : goal.After-self-1) where
     has_reading = c.args.head.has_reading;
     kind = c.in_ok-kind.kind;
     stamp = c.args.head.stamp;
+    has_stamp = c.args.head.has_stamp;
     carried = c.args.carried;
     line = c.args.line;
   }
 
-  numbered : NumbersNode c.args.self.now.nodes c.number_node.new.nodes c.args.node.now (Some c.in-Some.node)
+  numbered : NumbersNode c.args.self.now.nodes c.number_node.new.nodes c.args.names.node.now (Some c.in-Some.node)
   numbered = rw c.in-Some.is at c.in_ok-node.ensures
 
-  node_is : name_of c.number_node.new.nodes c.in-Some.node.0 ≡ c.args.node.now
-  node_is = get_or_from_slice_get c.number_node.new.nodes c.in-Some.node.0 c.args.node.now [] numbered.1
+  node_is : name_of c.number_node.new.nodes c.in-Some.node.0 ≡ c.args.names.node.now
+  node_is = get_or_from_slice_get c.number_node.new.nodes c.in-Some.node.0 c.args.names.node.now [] numbered.1
 
   abbrev named : NamedEvent
-  named = carrying c.args.carried (told_by c.args.head c.args.node.now c.args.message.now (option_map (λ (l : Bor (List ℕ)). l.now) c.args.label))
+  named =
+      carrying c.args.carried (told_by c.args.head c.args.names.node.now c.args.names.message.now
+      (option_map (λ (l : Bor (List ℕ)). l.now) c.args.names.from) (option_map (λ (l : Bor (List ℕ)). l.now) c.args.names.label))
 
-  told : with_names c.number_node.new.nodes c.number_message.new.messages event ≡ without_label named
+  told : with_names c.number_node.new.nodes c.number_message.new.messages event ≡ without_asides named
   told = λ i. record {
-    head = record { word = c.in_ok-kind.ensures.is_word i; reading = c.args.head.reading; has_reading = c.args.head.has_reading; stamp = c.args.head.stamp };
+    head = record { word = c.in_ok-kind.ensures.is_word i; reading = c.args.head.reading; has_reading = c.args.head.has_reading; stamp = c.args.head.stamp; has_stamp = c.args.head.has_stamp };
     node = node_is i;
     message = c.in_ok-kind.ensures.message i;
+    from = None;
     carried = c.args.carried;
     label = None;
   }
@@ -86,6 +93,7 @@ returns c items lines h =
       nodes = c.number_node.new.nodes;
       messages = c.number_message.new.messages;
       labels = c.give.new.self;
+      senders = c.give-2.new.self;
       questions = c.args.self.now.questions;
       line = c.args.line;
       columns = c.args.self.now.columns;
@@ -96,9 +104,12 @@ returns c items lines h =
       nodes = (numbered c).0;
       messages = c.in_ok-kind.ensures.names;
       labels = subst (λ (place : ℕ). GivesLabel c.args.self.now.labels c.give.new.self place (named c).label) (place c) c.in_ok-give.ensures;
+      senders = subst (λ (place : ℕ). GivesLabel c.args.self.now.senders c.give-2.new.self place (named c).from) (place c)
+          (subst (λ (sender : Option (List ℕ)). GivesLabel c.args.self.now.senders c.give-2.new.self c.len.result sender) c.sender.ensures
+          c.in_ok-give-2.ensures);
       questions = refl;
       told = told c;
-      named = (slice_get_within c.number_node.new.nodes c.in-Some.node.0 c.args.node.now (numbered c).1, c.in_ok-kind.ensures.below);
+      named = (slice_get_within c.number_node.new.nodes c.in-Some.node.0 c.args.names.node.now (numbered c).1, c.in_ok-kind.ensures.below);
       few_nodes = (numbered c).2;
       line = refl;
       next = c.requires.line;

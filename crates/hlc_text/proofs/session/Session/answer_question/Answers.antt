@@ -1,24 +1,13 @@
-use Rattle.std.proofs.Common.{◌≡◌, ap, refl, rules, sym}
+use Rattle.std.proofs.Common.{ap, refl, sym}
 use Rattle.std.proofs.lemmas.Result.{on_ok_weaker}
 use Rattle.hlc_text.specs.Answer.{Answer}
-use Rattle.hlc_text.specs.Session.{notes_of}
 use Rattle.hlc_text.specs.Reply.{rows_of_reply}
 use Rattle.hlc_text.proofs.AnswerFacts.{gives-same}
 use Rattle.hlc_text.proofs.session.Session.answer_question.Goals as goal
 
--- only the answers are others
-left : (g : _) (c : goal.Joined-reply g) → c.match-reply.self ≡ record {
-  cluster = c.args.self.now.cluster;
-  answers = c.push.new.self;
-  undelivered = c.args.self.now.undelivered;
-  alloc = c.args.self.now.alloc;
-}
-left g c = search rules
-
 pub returns-clause-answer : goal.returns-clause-answer
 returns-clause-answer g c =
-    rw (left g c)
-    (on_ok_weaker c.push.result
+    on_ok_weaker c.push.result
     (λ h. record {
       rows = rows_of_reply c.in_ok-reply.reply;
       step = gives-same _ _ _ _ refl
@@ -27,8 +16,4 @@ returns-clause-answer g c =
       counted = c.push.ensures.records;
       refused = c.push.ensures.refused;
     })
-    c.push.ensures.rows)
-
-pub returns-clause-notes : goal.returns-clause-notes
-returns-clause-notes g c =
-    on_ok_weaker c.push.result (λ h. ap notes_of (left g c)) c.push.ensures.rows
+    c.push.ensures.rows
