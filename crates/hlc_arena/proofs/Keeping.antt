@@ -119,6 +119,21 @@ module _
         sym (ap (kind_in log.pages (places_in lists.items)) is)
         ∙ kind_there arena.kept i within at ∙ ap (λ (a : StoredHistory). (event_at a.events i).kind) view
 
+    -- it is kept, and so is what it names
+    pub kind_exists : i < length kinds.items
+    kind_exists = omega (arith, arena.kept.one_each, within)
+
+    pub stored_shown : {kept kind : StoredKind} → kept ≡ slice_index_or kinds.items i kept → kept ≡ kind →
+        IsStored log.pages (places_in lists.items) kind
+    stored_shown at is = subst (IsStored log.pages (places_in lists.items)) is (stored_there arena.kept i within at)
+
+    pub list_exists : {to : NodeId} {list : ℕ} {kept : StoredKind} → kept ≡ slice_index_or kinds.items i kept → kept ≡ Sync to list →
+        list < length lists.items
+    list_exists at is =
+        let exists = stored_shown at is in
+        let size = length-map lists.items (λ (l : ArcSlice EventId Global). places_of (arc_slice_items l)) in
+        omega (arith, exists, size)
+
     pub event_shown : stamped_at shown.events i ≡ stamped_event (skeleton_at x.events i) (pair_at x.stamps i) (event_at shown.events i).kind
     event_shown =
         let here = event_there arena.kept i within (Deliver (record { 0 = 0 })) in

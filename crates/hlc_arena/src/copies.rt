@@ -18,10 +18,11 @@ impl Arena {
     {
         Ok(Arena {
             capacity: self.capacity,
-            execution: self.execution.copy(alloc)?,
             kinds: self.kinds.copy(alloc)?,
             bytes: self.bytes.copy(alloc)?,
             lists: share(alloc, &self.lists)?,
+            // It has the most parts, so it is copied last.
+            execution: self.execution.copy(alloc)?,
         })
     }
 }
@@ -35,9 +36,8 @@ fn share(
 {
     let mut shared = Pages::new(alloc);
     for place in 0..lists.len() {
-        let list = lists.at(place).clone()?;
         shared.reserve()?;
-        shared.push_reserved(list);
+        shared.push_reserved(lists.at(place).clone()?);
     }
     Ok(shared)
 }

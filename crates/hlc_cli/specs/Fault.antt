@@ -41,9 +41,13 @@ told_text stop.Encoding = text_of stop.Encoding
 told_text (stop.Line fault) = None
 told_text (stop.Command fault) = text_of (stop.Command fault)
 
+-- a line of the program's own with this text, if that is known
+abbrev pub line_with : Option (List ℕ) → Option (List ℕ)
+line_with text = option_map (λ t. codes "hlc: " ++ t ++ codes "\n") text
+
 -- the line that reports a fault
 abbrev pub line_of : Fault → Option (List ℕ)
-line_of fault = option_map (λ text. codes "hlc: " ++ text ++ codes "\n") (told_text fault)
+line_of fault = line_with (told_text fault)
 
 -- the line of a note, if there is one
 abbrev pub note_line : Option NoEvents → List ℕ

@@ -7,7 +7,7 @@ ghost use Rattle.clap.specs.Values.{kind_of};
 ghost use Rattle.clap.specs.Walk.{texts};
 ghost use Rattle.hlc_command_fault.specs.Fault.{IsOfAnswer as IsAnswered, IsOfInput as IsUnread};
 ghost use Rattle.hlc_cli.specs.Ended.{Ends};
-ghost use Rattle.hlc_cli.specs.Fault.{IsOfAnswer, IsOfInput, IsToldOf, command_status, line_at_end, line_of, note_line, status_at_end, status_of};
+ghost use Rattle.hlc_cli.specs.Fault.{IsOfAnswer, IsOfInput, IsToldOf, command_status, line_at_end, line_of, line_with, note_line, status_at_end, status_of};
 ghost use Rattle.hlc_cli.specs.Program.{AreMistaken, ArePerformed, ArePerformedBut, GiveOrder, HaveNote, IsDone, IsDoneBut, IsNoteAt, IsNoteFor, IsStop, IsText, IsTextAsked, MayHaveWritten, MayWrite, ReadsFirst, unnoted as unnoted_end};
 
 use crate::ended::Ended;
@@ -22,6 +22,7 @@ use hlc_script_commands::{
 };
 use hlc_threads_command::play;
 use hlc_trace::judge_run;
+use std::fmt::Display;
 use std::io;
 use std::io::{Read, Write};
 use std::marker::Brand;
@@ -155,6 +156,13 @@ pub fn try_perform<R: AllocGlobal + Threads + Wait + Sync, I: Read + Drop, O: Wr
     }
 }
 
+// Writes a line of the program's own.
+fn write_line<E: Write, T: Display>(errors: &mut E, told: &T) -> io::Result<()>
+    ensures { OnOk result (IsToldOf (line_with (T.output told.now)) (E.contents errors.old) (E.contents errors.new)) }
+{
+    writeln!(errors, "hlc: {told}")
+}
+
 // Writes what is told of arguments that give no order: clap's text, and what else is told of them. Of a number with a sign only the range is
 // told, if that is known.
 fn tell_of_arguments<E: Write>(
@@ -163,19 +171,14 @@ fn tell_of_arguments<E: Write>(
     hint: Option<Hint>,
 ) -> io::Result<()> {
     match fault {
-        LineFault::Line(text) => {
-            write!(errors, "{text}")?;
-            if let Some(hint) = hint {
-                writeln!(errors, "hlc: {hint}")?;
-            }
-        }
-        LineFault::Sign(_) => match hint {
-            Some(hint) => writeln!(errors, "hlc: {hint}")?,
-            None => writeln!(errors, "hlc: {fault}")?,
-        },
-        _ => writeln!(errors, "hlc: {fault}")?,
+        LineFault::Line(text) => write!(errors, "{text}")?,
+        _ if hint.is_none() => write_line(errors, fault)?,
+        _ => {}
     }
-    Ok(())
+    match hint {
+        Some(hint) => write_line(errors, &hint),
+        None => Ok(()),
+    }
 }
 
 // Writes the line of a fault, or what is told of the arguments.
@@ -184,7 +187,7 @@ fn tell<E: Write>(errors: &mut E, fault: &Fault, hint: Option<Hint>) -> io::Resu
 {
     match fault {
         Fault::Line(fault) => tell_of_arguments(errors, fault, hint)?,
-        Fault::Encoding | Fault::Command(_) => writeln!(errors, "hlc: {fault}")?,
+        Fault::Encoding | Fault::Command(_) => write_line(errors, fault)?,
     }
     errors.flush()
 }
@@ -246,7 +249,7 @@ fn hint_at(arguments: &[&str], fault: &Fault) -> Option<Hint> {
 fn write_note<E: Write>(errors: &mut E, note: NoEvents) -> io::Result<()>
     ensures { OnOk result (Appends (E.contents errors.old) (E.contents errors.new) (note_line (Some note))) }
 {
-    writeln!(errors, "hlc: {note}")?;
+    write_line(errors, &note)?;
     errors.flush()
 }
 

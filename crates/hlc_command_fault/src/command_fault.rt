@@ -36,16 +36,17 @@ impl fmt::Display for CommandFault {
     ghost output = { λ fault. Some (fault_text fault) };
 
     fn fmt<W: fmt::Write>(&self, f: &mut fmt::Formatter<W>) -> fmt::Result {
-        match *self {
-            CommandFault::NoEvent => write!(f, "no such event"),
-            CommandFault::BadLog => write!(f, "bad log"),
-            CommandFault::BrokenStamps => write!(f, "broken stamps"),
-            CommandFault::OverLimit => write!(f, "over the limit"),
-            CommandFault::Settings => write!(f, "bad settings"),
-            CommandFault::Mismatch(node) => write!(f, "log mismatch at node {}", node.0),
-            CommandFault::GateShut(node) => write!(f, "gate shut at node {}", node.0),
-            CommandFault::Records(cause) => write!(f, "{cause}"),
-        }
+        let text = match *self {
+            CommandFault::Mismatch(node) => return write!(f, "log mismatch at node {}", node.0),
+            CommandFault::GateShut(node) => return write!(f, "gate shut at node {}", node.0),
+            CommandFault::Records(cause) => return fmt::Display::fmt(&cause, f),
+            CommandFault::NoEvent => "no such event",
+            CommandFault::BadLog => "bad log",
+            CommandFault::BrokenStamps => "broken stamps",
+            CommandFault::OverLimit => "over the limit",
+            CommandFault::Settings => "bad settings",
+        };
+        f.write_str(text)
     }
 }
 

@@ -1,6 +1,7 @@
 -- The rules of subcommands and of their options.
-use Rattle.std.specs.Prelude.{List, codes, fold}
-use Rattle.clap.specs.Words.{App, Rule, Text, new_app, with_rule}
+use Rattle.std.specs.Prelude.{◌≡◌, false, List, Some, codes, fold}
+use Rattle.clap.specs.Words.{App, Rule, Text, new_app, new_rule, rule_of, with_rule}
+use Rattle.clap.specs.declared.builder.arg.Arg.{Arg}
 use Rattle.hlc_command_line.specs.LineOption.{flag_rule, many_rule}
 use Rattle.hlc_command_line.specs.NumberOption.{value_rule}
 use Rattle.hlc_command_line.specs.Subcommand.{with_required_subcommand, with_version}
@@ -9,11 +10,20 @@ use Rattle.hlc_command_line.specs.declared.option_rule.Takes.{Takes}
 use Rattle.hlc_command_line.specs.declared.option_rule.Takes.TheVariants as takes
 use Rattle.hlc_command_line.specs.declared.subcommand_rule.SubcommandRule.{SubcommandRule}
 
+-- clap was told just this of the argument, and of no subcommand that has it too
+abbrev pub IsArgument : Arg → Rule → Type 0
+IsArgument a r = (rule_of a ≡ r) × (a.global ≡ false)
+
 -- what clap is told of an option of this name
 abbrev pub rule_taking : Text → Takes → Rule
 rule_taking name takes.Nothing = flag_rule name
 rule_taking name (takes.One value parser required) = value_rule name parser required
 rule_taking name (takes.Many value parser) = many_rule name parser
+
+-- the same of an option that isn't told of values yet
+abbrev pub bare_rule : Text → Takes → Rule
+bare_rule name t =
+    record (new_rule name) { long = Some name; required = (rule_taking name t).required; action = (rule_taking name t).action }
 
 -- the same, by the option's rule
 abbrev pub rule_of_option : OptionRule → Rule

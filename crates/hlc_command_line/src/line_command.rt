@@ -1,10 +1,9 @@
 // How the command line is told to clap.
 
-ghost use Rattle.std.specs.Prelude.{IfOk, Some, false, map, ◌≡◌};
-ghost use Rattle.std.specs.List.{AllByRecursion};
-ghost use Rattle.clap.specs.Words.{Text, app_of, new_app, rule_of};
+ghost use Rattle.std.specs.Prelude.{IfOk, Some, ◌≡◌};
+ghost use Rattle.clap.specs.Words.{Text, new_app};
 ghost use Rattle.hlc_command_line.specs.Subcommand.{IsCommand, app_of_subcommand};
-ghost use Rattle.hlc_command_line.specs.Rules.{program_app, rule_of_option, rule_taking};
+ghost use Rattle.hlc_command_line.specs.Rules.{IsArgument, bare_rule, program_app, rule_of_option, rule_taking};
 ghost use Rattle.hlc_command_line.specs.Line.{line_app, subcommand_named};
 
 use crate::help;
@@ -34,16 +33,22 @@ fn is_required(takes: Takes) -> bool
     }
 }
 
-// The option of a rule.
-fn argument<'a>(alloc: Global, option: &OptionRule) -> Arg<'a>
-    ensures rule { rule_of result ≡ rule_of_option option.now }
-    ensures local { result.global ≡ false }
+// The option of a rule, before it is told of values.
+fn bare_argument<'a>(alloc: Global, option: &OptionRule) -> Arg<'a>
+    ensures { IsArgument result (bare_rule option.now.name.now option.now.takes) }
 {
-    let argument = Arg::new(alloc, option.name)
+    Arg::new(alloc, option.name)
         .long(option.name)
         .help(option.text)
         .required(is_required(option.takes))
-        .action(action_of(option.takes));
+        .action(action_of(option.takes))
+}
+
+// The option of a rule.
+fn argument<'a>(alloc: Global, option: &OptionRule) -> Arg<'a>
+    ensures { IsArgument result (rule_of_option option.now) }
+{
+    let argument = bare_argument(alloc, option);
     match option.takes {
         Takes::Nothing => argument,
         Takes::One { value, parser, .. } | Takes::Many { value, parser } => {
@@ -66,40 +71,16 @@ fn bare_command<'a>(
         .after_help(after_help)
 }
 
-// The options of these rules.
-fn arguments<'a>(alloc: Global, rules: &[OptionRule]) -> Result<Vec<Arg<'a>>, AllocError>
-    ensures rules { IfOk result (λ made. map rule_of made.items ≡ map rule_of_option rules.now) }
-    ensures local { IfOk result (λ made. AllByRecursion (λ a. a.global ≡ false) made.items) }
-{
-    let mut made = Vec::new(alloc);
-    for rule in rules {
-        made.push(argument(alloc, rule))?;
-    }
-    Ok(made)
-}
-
 // The subcommand of this name.
 fn subcommand_of<'a>(alloc: Global, name: SubcommandName) -> Result<Command<'a>, AllocError>
     ensures { IfOk result (λ c. IsCommand c (app_of_subcommand (subcommand_named name))) }
 {
     let rule = subcommand_rule(name);
-    let options = arguments(alloc, rule.options)?;
-    bare_command(alloc, rule.name, rule.about, rule.after_help).args(options)
-}
-
-// The subcommands of these names.
-fn subcommands_of<'a>(
-    alloc: Global,
-    names: &[SubcommandName],
-) -> Result<Vec<Command<'a>>, AllocError>
-    ensures told { IfOk result (λ made. map app_of made.items ≡ map (λ name. app_of_subcommand (subcommand_named name)) names.now) }
-    ensures local { IfOk result (λ made. AllByRecursion (λ c. IsCommand c (app_of c)) made.items) }
-{
-    let mut made = Vec::new(alloc);
-    for name in names {
-        made.push(subcommand_of(alloc, *name)?)?;
+    let mut command = bare_command(alloc, rule.name, rule.about, rule.after_help);
+    for option in rule.options {
+        command = command.arg(argument(alloc, option))?;
     }
-    Ok(made)
+    Ok(command)
 }
 
 // The command `hlc` without its subcommands.
@@ -115,8 +96,10 @@ fn program_command<'a>(alloc: Global) -> Command<'a>
 pub(crate) fn line_command<'a>(alloc: Global) -> Result<Command<'a>, AllocError>
     ensures { IfOk result (λ c. IsCommand c line_app) }
 {
-    let subcommands = subcommands_of(alloc, &SUBCOMMANDS)?;
-    program_command(alloc)
-        .subcommands(subcommands)?
-        .bin_name("hlc")
+    let mut command = program_command(alloc);
+    for name in &SUBCOMMANDS {
+        let subcommand = subcommand_of(alloc, *name)?;
+        command = command.subcommand(subcommand)?;
+    }
+    command.bin_name("hlc")
 }

@@ -25,14 +25,12 @@ impl fmt::Display for PartMistake {
     ghost output = { λ mistake. Some (part_mistake_text mistake) };
 
     fn fmt<W: fmt::Write>(&self, f: &mut fmt::Formatter<W>) -> fmt::Result {
-        match self {
-            PartMistake::RowsAlone => f.write_str("--rows needs --around"),
-            PartMistake::AroundBetween => f.write_str("--around takes no --from or --to"),
-            PartMistake::ChainOfNone => f.write_str("--only-chain needs --explain"),
-            PartMistake::ChainAndRows => f.write_str(
-                "--only-chain takes no --from, --to or --around",
-            ),
-        }
+        f.write_str(match self {
+            PartMistake::RowsAlone => "--rows needs --around",
+            PartMistake::AroundBetween => "--around takes no --from or --to",
+            PartMistake::ChainOfNone => "--only-chain needs --explain",
+            PartMistake::ChainAndRows => "--only-chain takes no --from, --to or --around",
+        })
     }
 }
 
@@ -65,17 +63,20 @@ impl fmt::Display for LineFault {
     ghost output = { λ fault. line_fault_text fault };
 
     fn fmt<W: fmt::Write>(&self, f: &mut fmt::Formatter<W>) -> fmt::Result {
-        match self {
-            LineFault::Line(error) => fmt::Display::fmt(error, f),
-            LineFault::Range => f.write_str("--from is above --to"),
-            LineFault::Forms => f.write_str("--packed and --dotted are two forms of stamps"),
-            LineFault::Unsent => f.write_str("--unsent takes only the word `local`"),
-            LineFault::Receives => f.write_str("--receives takes `tick`, `merge` or `merge-clock`"),
-            LineFault::Sign(option) => write!(f, "--{option} takes a whole number without a sign"),
-            LineFault::Question => f.write_str("--ask takes a question of a log"),
-            LineFault::Part(mistake) => fmt::Display::fmt(mistake, f),
-            LineFault::Memory => f.write_str("out of memory"),
-        }
+        let text = match self {
+            LineFault::Line(error) => return fmt::Display::fmt(error, f),
+            LineFault::Part(mistake) => return fmt::Display::fmt(mistake, f),
+            LineFault::Sign(option) => {
+                return write!(f, "--{option} takes a whole number without a sign");
+            }
+            LineFault::Range => "--from is above --to",
+            LineFault::Forms => "--packed and --dotted are two forms of stamps",
+            LineFault::Unsent => "--unsent takes only the word `local`",
+            LineFault::Receives => "--receives takes `tick`, `merge` or `merge-clock`",
+            LineFault::Question => "--ask takes a question of a log",
+            LineFault::Memory => "out of memory",
+        };
+        f.write_str(text)
     }
 }
 

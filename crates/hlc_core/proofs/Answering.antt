@@ -100,6 +100,17 @@ answered_by_effect {s} {node} {request} {effect} is reading passes near r new ad
     let none = let_through s node reading request passes is.passes not_far in
     answered_by_adding s node reading request e (effect_live s node effect) new none event is.live r adds
 
+-- and so is one that would make this happen too far ahead of its reading
+pub refused_by_drift_of :
+    {s : State} {node : ℕ} {request : Request} {effect : Effect} → IsEffectOf s node request effect →
+    (reading : ℕ) → PassesCommon s node reading →
+    exceeds s.limit (drift_if_next s.history.events (effect_event s node reading effect)) ≡ true →
+    IsAnswered s node reading request (Err TooFarAhead) s
+refused_by_drift_of {s} {node} {request} is reading passes far =
+    let event = ap (event_with node reading) is.kind in
+    refused_by_drift s node reading request passes is.passes
+    (ap (λ (f : Event). exceeds s.limit (drift_if_next s.history.events f)) (sym event) ∙ far)
+
 -- what each request's own conditions answer
 module _ (s : State) (node : ℕ) where
   abbrev own_answer : Request → Option Refusal

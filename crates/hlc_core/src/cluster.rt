@@ -61,7 +61,7 @@ fn empty_tables(alloc: Global, nodes: u16) -> Result<Vec<NodeTable>, AllocError>
 {
     let mut tables = Vec::with_capacity(alloc, nodes as usize)?;
     for node in 0..nodes {
-        tables.push(NodeTable::new(alloc))?;
+        tables.push_reserved(NodeTable::new(alloc));
     }
     Ok(tables)
 }

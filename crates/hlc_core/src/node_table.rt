@@ -46,7 +46,7 @@ fn writes_of(table: &Table) -> Result<Vec<EventId>, AllocError>
 {
     let mut writes = Vec::with_capacity(table.allocator(), table.len())?;
     for (_, entry) in table.entries() {
-        writes.push(entry.write)?;
+        writes.push_reserved(entry.write);
     }
     Ok(writes)
 }

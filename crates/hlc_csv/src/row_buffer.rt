@@ -1,4 +1,4 @@
-ghost use Rattle.std.specs.Prelude.{◌≡◌, ◌+◌, ◌-◌, ◌≤◌, length, ◌++◌, [], ◌∷◌, drop, map, decimal, replicate, take, OnErr, OnOk};
+ghost use Rattle.std.specs.Prelude.{◌≡◌, ◌+◌, ◌-◌, ◌≤◌, length, ◌++◌, [], ◌∷◌, drop, map, decimal, replicate, take, IsOk, OnErr, OnOk};
 ghost use Rattle.std.specs.Io.KnownBytes.{Appends};
 ghost use Rattle.csv.specs.Writing.{field_text, fields_text, needs_quotes as calls_for_quotes, quoted, row_body};
 ghost use Rattle.hlc_csv.specs.Rows.{AddsRow, AddsText, number_row, refusal_row, row_end, row_field_bytes, row_setup, text_of_row};
@@ -35,7 +35,7 @@ fn needs_quotes(field: &[u8]) -> bool
 fn put_quoted(text: &mut Vec<u8>, field: &[u8]) -> Result<(), AllocError>
     ensures { OnOk result (text.new.items ≡ text.old.items ++ quoted row_setup field.now) }
 {
-    text.push(b'"')?;
+    text.extend_from_slice(b"\"")?;
     let mut rest = field;
     while let Some(at) = memchr(b'"', rest) {
         text.extend_from_slice(&rest[..at])?;
@@ -43,8 +43,7 @@ fn put_quoted(text: &mut Vec<u8>, field: &[u8]) -> Result<(), AllocError>
         rest = &rest[at + 1..];
     }
     text.extend_from_slice(rest)?;
-    text.push(b'"')?;
-    Ok(())
+    text.extend_from_slice(b"\"")
 }
 
 // Writes a field, between quotes if it needs them.
@@ -127,7 +126,7 @@ fn put_next(text: &mut Vec<u8>, field: RowField<'_>) -> Result<(), AllocError>
 {
     match field {
         RowField::Text(bytes) => {
-            text.push(b',')?;
+            text.extend_from_slice(b",")?;
             put_text(text, bytes)
         }
         RowField::Number(number) => put_next_number(text, number),
@@ -142,8 +141,7 @@ fn end_row(text: &mut Vec<u8>, start: usize) -> Result<(), AllocError>
     if text.len() <= start {
         text.extend_from_slice(b"\"\"")?;
     }
-    text.push(b'\n')?;
-    Ok(())
+    text.extend_from_slice(b"\n")
 }
 
 // Writes fields after others.
@@ -221,8 +219,7 @@ fn put_refusal(text: &mut Vec<u8>, word: &[u8]) -> Result<(), AllocError>
 {
     text.extend_from_slice(b"refused,")?;
     put_text(text, word)?;
-    text.push(b'\n')?;
-    Ok(())
+    text.extend_from_slice(b"\n")
 }
 
 /// Rows as CSV text, gathered and handed to a writer in batches.
@@ -261,11 +258,8 @@ impl RowBuffer {
         ensures fault { OnErr result (self.new ≡ []) }
         ensures added { OnOk result (AddsRow W.contents writer.old writer.new self.old self.new (map row_field_bytes fields.now)) }
     {
-        if put_row(&mut self.text, fields).is_err() {
-            self.text.clear();
-            return Err(OutputFault::Memory);
-        }
-        self.spill(writer)
+        let put = put_row(&mut self.text, fields);
+        self.spill(put, writer)
     }
 
     /// Adds the row that answers what is refused, by the word that says why.
@@ -276,11 +270,8 @@ impl RowBuffer {
         ensures fault { OnErr result (self.new ≡ []) }
         ensures added { OnOk result (AddsRow W.contents writer.old writer.new self.old self.new (refusal_row word.now)) }
     {
-        if put_refusal(&mut self.text, word).is_err() {
-            self.text.clear();
-            return Err(OutputFault::Memory);
-        }
-        self.spill(writer)
+        let put = put_refusal(&mut self.text, word);
+        self.spill(put, writer)
     }
 
     /// Adds a row of a word and numbers, and of a last word if there is one.
@@ -297,11 +288,8 @@ impl RowBuffer {
         ensures fault { OnErr result (self.new ≡ []) }
         ensures added { OnOk result (AddsRow W.contents writer.old writer.new self.old self.new (number_row word.now numbers.now last.entry)) }
     {
-        if put_number_row(&mut self.text, word, numbers, last).is_err() {
-            self.text.clear();
-            return Err(OutputFault::Memory);
-        }
-        self.spill(writer)
+        let put = put_number_row(&mut self.text, word, numbers, last);
+        self.spill(put, writer)
     }
 
     /// Hands all rows to the writer, and flushes it.
@@ -314,12 +302,21 @@ impl RowBuffer {
         writer.flush().map_err(|_| OutputFault::Write)
     }
 
-    // Hands the rows to the writer if there is a batch of them.
+    // Hands the rows to the writer if there is a batch of them. None waits if the last one couldn't be put.
     #[inline]
-    fn spill<W: Write>(&mut self, writer: &mut W) -> Result<(), OutputFault>
+    fn spill<W: Write>(
+        &mut self,
+        put: Result<(), AllocError>,
+        writer: &mut W,
+    ) -> Result<(), OutputFault>
         ensures fault { OnErr result (self.new ≡ []) }
+        ensures put { OnOk result (IsOk put) }
         ensures sent { OnOk result (AddsText (W.contents writer.old) (W.contents writer.new) self.old self.new []) }
     {
+        if put.is_err() {
+            self.text.clear();
+            return Err(OutputFault::Memory);
+        }
         if self.text.len() < BATCH {
             return Ok(());
         }

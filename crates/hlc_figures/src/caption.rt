@@ -71,7 +71,7 @@ impl fmt::Display for Range {
 
     fn fmt<W: fmt::Write>(&self, f: &mut fmt::Formatter<W>) -> fmt::Result {
         match *self {
-            Range::NoEvent => write!(f, "No event"),
+            Range::NoEvent => f.write_str("No event"),
             Range::Events { first, last } => write!(f, "Events {first} to {last}"),
             Range::Rows { first, last } => write!(f, "Rows {first} to {last}"),
         }

@@ -3,7 +3,7 @@
 ghost use Rattle.std.specs.Prelude.{◌≡◌, ◌++◌, ◌<◌, OnOk, length, string_bytes};
 ghost use Rattle.hlc_causality.specs.Causality.{skeleton_at};
 ghost use Rattle.hlc_causality.specs.FollowedChains.{is_event};
-ghost use Rattle.hlc_figures.specs.ChainFigure.{StopExists, band_in, count_begins, counted_in, counted_text, dot_in, events_word, stop_arrow, stop_link};
+ghost use Rattle.hlc_figures.specs.ChainFigure.{StopExists, band_in, counted_in, counted_text, dot_in, events_word, stop_arrow, stop_link};
 
 use crate::chain_rows::{Gap, Standing, Stop};
 use crate::kept::{node, send};
@@ -14,7 +14,6 @@ use hlc_svg::dot::Dot;
 use hlc_svg::frame::{Frame, ROW, row_y, x};
 use hlc_svg::route::Route;
 use hlc_svg::shapes::{Band, Link, Point};
-use hlc_svg::text::put;
 use std::alloc::AllocError;
 
 // How many events lie between two of the chain, and where that stands.
@@ -112,24 +111,16 @@ fn events_word(count: u32) -> &'static str
     if count == 1 { "event" } else { "events" }
 }
 
-// What comes before that word.
-fn put_count(text: &mut String, counted: Counted) -> Result<(), AllocError>
-    ensures { OnOk result (string_bytes text.new ≡ string_bytes text.old ++ count_begins counted) }
-{
-    let (x, y, count) = (counted.x, counted.y, counted.count);
-    write!(
-        text,
-        "<text class=\"h\" x=\"{x}\" y=\"{y}\" dy=\"4\">&#8230; {count} "
-    )
-}
-
 // How many events lie between two of the chain, in words.
 fn put_words(text: &mut String, counted: Counted) -> Result<(), AllocError>
     ensures { OnOk result (string_bytes text.new ≡ string_bytes text.old ++ counted_text counted) }
 {
-    put_count(text, counted)?;
-    put(text, events_word(counted.count))?;
-    put(text, "</text>\n")
+    let (x, y, count) = (counted.x, counted.y, counted.count);
+    let word = events_word(count);
+    write!(
+        text,
+        "<text class=\"h\" x=\"{x}\" y=\"{y}\" dy=\"4\">&#8230; {count} {word}</text>\n"
+    )
 }
 
 // How many they are, and where that stands.

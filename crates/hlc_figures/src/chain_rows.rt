@@ -1,6 +1,6 @@
 // The rows of the picture of a chain.
 
-ghost use Rattle.std.specs.Prelude.{◌≡◌, ◌++◌, ◌≤◌, IfOk, OnOk};
+ghost use Rattle.std.specs.Prelude.{◌≡◌, ◌++◌, ◌≤◌, [], IfOk, OnOk};
 ghost use Rattle.hlc_stamp.specs.Ids.{places_of};
 ghost use Rattle.hlc_figures.specs.ChainRows.{IsRising, StandsBefore, between, gap_rows, next_row, rows_of, standing};
 
@@ -88,18 +88,28 @@ fn put_gap(
     Ok(())
 }
 
+// Puts the rows of a chain.
+fn put_rows(rows: &mut Vec<ChainRow>, chain: &[EventId]) -> Result<(), AllocError>
+    requires rising { IsRising (places_of chain.now) }
+    requires none { rows.old.items ≡ [] }
+    ensures { OnOk result (rows.new.items ≡ rows_of (places_of chain.now)) }
+{
+    let mut before = None;
+    for event in chain {
+        put_gap(rows, before, *event)?;
+        let at = stand_after(before, *event);
+        rows.push(ChainRow::Event(Stop { at, before }))?;
+        before = Some(at);
+    }
+    Ok(())
+}
+
 /// The rows of a chain: its events in order, and between two that aren't next to one another one that counts what lies there.
 pub fn chain_rows(alloc: Global, chain: &[EventId]) -> Result<Vec<ChainRow>, AllocError>
     requires { IsRising (places_of chain.now) }
     ensures { IfOk result (λ rows. rows.items ≡ rows_of (places_of chain.now)) }
 {
     let mut rows = Vec::new(alloc);
-    let mut before = None;
-    for event in chain {
-        put_gap(&mut rows, before, *event)?;
-        let at = stand_after(before, *event);
-        rows.push(ChainRow::Event(Stop { at, before }))?;
-        before = Some(at);
-    }
+    put_rows(&mut rows, chain)?;
     Ok(rows)
 }

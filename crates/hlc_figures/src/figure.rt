@@ -2,7 +2,7 @@
 
 ghost use Rattle.std.specs.Prelude.{◌≡◌, ◌<◌, length};
 ghost use Rattle.hlc_causality.specs.FollowedChains.{is_event};
-ghost use Rattle.hlc_figures.specs.Figure.{arrow_of, band_of, border_of, dot_of, end_at, entering_of, leaving_of, link_of, link_top, next_of, number_distance, stub_of, turn_distance};
+ghost use Rattle.hlc_figures.specs.Figure.{arrow_of, band_of, border_of, dot_of, end_at, entering_of, is_step, leaving_of, link_of, link_top, next_of, number_distance, stub_of, turn_distance};
 ghost use Rattle.hlc_figures.specs.Scene.{IsDrawn, IsScene};
 
 use crate::kept::{first_after, forcing, is_forced_by, node, send};
@@ -80,6 +80,15 @@ pub fn stub<S: Subject>(subject: &S, scene: &Scene<'_>, event: EventId) -> Optio
     })
 }
 
+// Whether the marked chain goes from a send to its delivery.
+fn is_step<S: Subject>(subject: &S, scene: &Scene<'_>, sent: EventId, event: EventId) -> bool
+    requires scene { IsScene (S.content subject.now) scene.now }
+    requires drawn { IsDrawn scene.now.frame event.0 }
+    ensures { result ≡ is_step (S.content subject.now) scene.now.explained sent.0 event.0 }
+{
+    is_marked(subject, scene, event) && is_forced_by(subject, event, sent)
+}
+
 /// The arrow to a delivery from its send, if that is drawn too.
 pub fn arrow<S: Subject>(subject: &S, scene: &Scene<'_>, event: EventId) -> Option<Arrow>
     requires scene { IsScene (S.content subject.now) scene.now }
@@ -101,7 +110,7 @@ pub fn arrow<S: Subject>(subject: &S, scene: &Scene<'_>, event: EventId) -> Opti
             to: node(subject, event),
             frame: scene.frame,
         },
-        is_marked: is_marked(subject, scene, event) && is_forced_by(subject, event, sent),
+        is_marked: is_step(subject, scene, sent, event),
     })
 }
 
@@ -172,7 +181,7 @@ pub fn entering<S: Subject>(subject: &S, scene: &Scene<'_>, event: EventId) -> O
     if sent.0 >= scene.frame.first {
         return None;
     }
-    let is_marked = is_marked(subject, scene, event) && is_forced_by(subject, event, sent);
+    let is_marked = is_step(subject, scene, sent, event);
     Some(end(subject, scene.frame, Border::Upper, event, sent, is_marked))
 }
 

@@ -88,22 +88,15 @@ fn put_description<S: Subject>(
     put(text, "</desc>\n")
 }
 
-// How things look.
-fn put_style(text: &mut String) -> Result<(), AllocError>
-    ensures { OnOk result (string_bytes text.new ≡ string_bytes text.old ++ STYLE.now) }
-{
-    text.push_str(STYLE)
-}
-
-// The ground and the caption.
+// How things look, the ground and the caption.
 #[tactic(auto, unfolding(crate::specs::Head::ground_text))]
 fn put_ground(text: &mut String, frame: Frame, caption: Caption) -> Result<(), AllocError>
-    ensures { OnOk result (string_bytes text.new ≡ string_bytes text.old ++ ground_text frame caption) }
+    ensures { OnOk result (string_bytes text.new ≡ string_bytes text.old ++ (STYLE.now ++ ground_text frame caption)) }
 {
     let (width, height) = (frame.width, frame.height);
     write!(
         text,
-        "<rect class=\"w\" width=\"{width}\" height=\"{height}\"/>\n<text class=\"h\" x=\"24\" y=\"22\">{caption}</text>\n"
+        "{STYLE}<rect class=\"w\" width=\"{width}\" height=\"{height}\"/>\n<text class=\"h\" x=\"24\" y=\"22\">{caption}</text>\n"
     )
 }
 
@@ -162,7 +155,6 @@ pub fn put_head<S: Subject>(
 {
     put_root(text, scene.frame)?;
     put_description(text, subject, scene.frame, caption)?;
-    put_style(text)?;
     put_ground(text, scene.frame, caption)?;
     put_headings(text, subject, scene)
 }

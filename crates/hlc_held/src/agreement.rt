@@ -7,6 +7,7 @@ ghost use Rattle.hlc_arena.specs.Known.{value_of};
 ghost use Rattle.hlc_arena.specs.KnownSteps.{NamesEarlier};
 ghost use Rattle.hlc_arena.specs.Kinds.{event_kind_of};
 ghost use Rattle.hlc_arena.specs.ClockRule.{HasLeastStamps};
+ghost use Rattle.hlc_table.specs.NodeEvents.{NamesNextFrom};
 ghost use Rattle.hlc_table.specs.NodeWalk.{StandsAt};
 ghost use Rattle.hlc_request.specs.Request.{ToSend, request_of};
 ghost use Rattle.hlc_held.specs.Agreement.{Agrees, IsAnswerTo, IsWhatWasAsked};
@@ -15,7 +16,7 @@ ghost use Rattle.hlc_held.specs.Sights.{sight_of_key};
 ghost use Rattle.hlc_held.specs.Walks.{GoesOn, Strays, places_passed};
 
 use crate::logged::Logged;
-use crate::seen::Seen;
+use crate::seen::{Seen, value_written};
 use hlc_arena::{Arena, Kind};
 use hlc_request::Action;
 use hlc_stamp::{EventId, NodeId, Stamp};
@@ -39,8 +40,19 @@ pub fn agrees(
 {
     history.keeps_a_well_formed_history();
     let mut walk = NodeWalk::new(alloc, history, node);
+    follow_all(&mut walk, history, log)
+}
+
+// Follows a log along a walk that stands before its node's first event, and answers whether the two agree to the end.
+fn follow_all(walk: &mut NodeWalk, history: &Arena, log: &[Logged]) -> Result<bool, AllocError>
+    requires well_formed { IsWellFormed (history_of history.now) }
+    requires least { HasLeastStamps history.now.events }
+    requires stands { StandsAt history.now.events walk.old }
+    requires first { NamesNextFrom history.now.events walk.old.node 0 walk.old.next }
+    ensures { IfOk result (λ agrees. IsTrue agrees ↔ Agrees history.now.events walk.old.node (log_of log.now)) }
+{
     for entry in log {
-        if !follow(&mut walk, history, entry)? {
+        if !follow(walk, history, entry)? {
             return Ok(false);
         }
     }
@@ -196,8 +208,7 @@ fn is_sight(history: &Arena, entry: Entry, seen: &Seen) -> bool
 fn has_value(history: &Arena, write: EventId, value: &Option<Vec<u8>>) -> bool
     ensures { IsTrue result ↔ (option_map (λ v. v.items) value.now ≡ value_of (event_at history.now.events write.0).kind) }
 {
-    let written = history.get(write).and_then(|record| record.kind.value());
-    match (written, value) {
+    match (value_written(history, write), value) {
         (Some(written), Some(value)) => written == value.as_slice(),
         (None, None) => true,
         _ => false,

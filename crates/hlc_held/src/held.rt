@@ -59,12 +59,12 @@ fn log_look(
     ensures logged { OnOk result (log_of log.new.items ≡ log_of log.old.items ++ DidLook key.now (option_map sight_of answer.now) ∷ []) }
     ensures unchanged { OnErr result (log.new.items ≡ log.old.items) }
 {
+    log.reserve(1)?;
+    let key = key.to_vec(alloc)?;
     let kept = match answer {
         Some(seen) => Some(seen.copy(alloc)?),
         None => None,
     };
-    let key = key.to_vec(alloc)?;
-    log.reserve(1)?;
     log.push_reserved(Logged::Looked { key, answer: kept });
     Ok(())
 }
@@ -224,9 +224,9 @@ impl<L: Group> Held<L> {
             mut book,
             rest: mut all,
         } = self;
-        let logs = logs_of(alloc, cluster.nodes(), seats, &mut all)?;
-        book.audit(&mut all);
         let history = cluster.into_history();
+        let logs = logs_of(alloc, history.nodes(), seats, &mut all)?;
+        book.audit(&mut all);
         Ok((history, logs))
     }
 

@@ -41,7 +41,7 @@ fn empty_logs(alloc: Global, nodes: u16) -> Result<Vec<Vec<Logged>>, AllocError>
 {
     let mut logs = Vec::with_capacity(alloc, nodes as usize)?;
     for node in 0..nodes {
-        logs.push(Vec::new(alloc))?;
+        logs.push_reserved(Vec::new(alloc));
     }
     Ok(logs)
 }

@@ -75,11 +75,11 @@ pub(crate) fn seats_for<L: Group>(
     let mut seats = Vec::with_capacity(alloc, nodes as usize)?;
     for node in 0..nodes {
         let share = all.split_off(1, 0);
-        seats.push(Seat {
+        seats.push_reserved(Seat {
             node: NodeId(node),
             log: Vec::new(alloc),
             share,
-        })?;
+        });
     }
     Ok(seats)
 }

@@ -1,14 +1,15 @@
-ghost use Rattle.std.specs.Prelude.{◌≡◌, IfOk};
+ghost use Rattle.std.specs.Prelude.{◌≡◌, IfOk, option_map};
 ghost use Rattle.hlc_arena.specs.History.{event_at};
 ghost use Rattle.hlc_arena.specs.Known.{value_of};
 ghost use Rattle.hlc_held.specs.LogEntry.{sight_of};
 
 use hlc_arena::Arena;
+use hlc_stamp::EventId;
 use hlc_table::Entry;
 use std::alloc::{AllocError, Global};
 
 /// What a look at a key shows: its entry, and the value of the write.
-#[derive(Debug, PartialEq, Eq, Drop)]
+#[derive(Debug, Drop)]
 pub struct Seen {
     /// The entry: the write and its rank.
     pub entry: Entry,
@@ -22,10 +23,7 @@ impl Seen {
         ensures { IfOk result (λ seen.
             sight_of seen ≡ record { entry = entry; value = value_of (event_at history.now.events entry.write.0).kind }) }
     {
-        let written = history
-            .get(entry.write)
-            .and_then(|record| record.kind.value());
-        let value = match written {
+        let value = match value_written(history, entry.write) {
             Some(value) => Some(value.to_vec(alloc)?),
             None => None,
         };
@@ -45,4 +43,11 @@ impl Seen {
             value,
         })
     }
+}
+
+/// The value that an event wrote; an erasure wrote none.
+pub(crate) fn value_written(history: &Arena, event: EventId) -> Option<&[u8]>
+    ensures { option_map (λ value. value.now) result ≡ value_of (event_at history.now.events event.0).kind }
+{
+    history.get(event)?.kind.value()
 }

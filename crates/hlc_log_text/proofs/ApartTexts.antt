@@ -1,6 +1,6 @@
 -- Texts of logs whose messages were told apart.
-use Rattle.std.proofs.Common.{◌≡◌, ◌∙◌, ℕ, ◌*◌, ◌<◌, ◌≤◌, zero, suc, List, [], ◌∷◌, Option, Some, None, ap, arith, get_or, length, map, refl, sym}
-use Rattle.std.specs.Prelude.{All, AllPairs}
+use Rattle.std.proofs.Common.{◌≡◌, ◌∙◌, ℕ, ◌*◌, ◌<◌, ◌≤◌, zero, suc, List, [], ◌∷◌, Option, Some, None, Ok, Err, Result, ap, arith, get_or, length, map, refl, subst, sym}
+use Rattle.std.specs.Prelude.{All, AllPairs, IfOk}
 use Rattle.std.specs.List.{range_with_len}
 use Rattle.std.proofs.lemmas.List.{ext_get_or, get_or-map, length-map}
 use Rattle.std.proofs.lemmas.List.FromFn.{get_or-map-range_with_len, length-range_with_len}
@@ -15,8 +15,8 @@ use Rattle.hlc_log_text.specs.Labels.{label_at}
 use Rattle.hlc_log_text.specs.LogItem.{LogItem, events_in}
 use Rattle.hlc_log_text.specs.LogText.{IsLogOf, IsTextOf, apart_count, apart_if, message_names, node_of, sender_of_event, senders_of, unnamed_in, with_names}
 use Rattle.hlc_log_text.specs.NamedEvent.{NamedEvent, without_asides}
-use Rattle.hlc_log_text.specs.PartialLog.{IsPartialLog, apart_text, nodes_named, text_of}
-use Rattle.hlc_log_text.specs.ReadLog.{AreOnLines, IsReadInto, IsReadWhole}
+use Rattle.hlc_log_text.specs.PartialLog.{HasFewNames, IsFinished, IsPartialLog, apart_log, apart_text, nodes_named, text_of, text_with}
+use Rattle.hlc_log_text.specs.ReadLog.{AreOnLines, IsReadInto, IsReadWhole, IsTextRead}
 use Rattle.hlc_log_text.proofs.LogFacts.{length-log}
 
 -- what is true of a log whose messages are told apart, if some have no name
@@ -132,3 +132,35 @@ is_whole rules most bytes partial h = record {
       (lines_apart_if (length partial.messages) (nodes_named partial.nodes partial.senders (length partial.log.events)) partial.log.events (unnamed_in partial.messages))
       h.on_lines;
 }
+
+pub is_text_read : (rules : LogRules) (most : ℕ) (bytes : Option (List ℕ)) (old new : PartialLog) (nodes : List (List ℕ)) → IsFinished old new nodes
+    → IsReadInto rules most bytes old → IsTextRead rules most bytes new nodes
+is_text_read rules most bytes old new nodes finished h =
+    subst (IsReadWhole rules most bytes) (sym finished.text) (is_whole rules most bytes old h)
+
+-- once messages are told apart, the names of nodes can be handed out
+module _ (old told : PartialLog) (few : HasFewNames old) (is : told ≡ record old { log = apart_log old }) where
+  abbrev messages : ℕ
+  messages = length old.messages
+
+  size : length (apart_log old).events ≡ length old.log.events
+  size = length-apart_if messages (nodes_named old.nodes old.senders (length old.log.events)) old.log.events (unnamed_in old.messages)
+
+  is_finished_with : (taken left : List (List ℕ)) → taken ≡ told.nodes → left ≡ [] → (names : List (List ℕ)) → names ≡ taken
+      → IsFinished old (record told { nodes = left }) names
+  is_finished_with taken left take none names same =
+      let empty = ap length none in
+      let few_messages = few.few_messages in
+      let counted = size in
+      let mentioned = ap (λ (p : PartialLog). length p.messages) is in
+      let happened = ap (λ (p : PartialLog). length p.log.events) is in
+      record {
+        text = ap (text_with names) is ∙ ap (λ (n : List (List ℕ)). text_with n (record old { log = apart_log old })) (same ∙ take ∙ ap (λ (p : PartialLog). p.nodes) is)
+            ∙ ap (λ (count : ℕ). record (apart_text old) { messages = apart_count (unnamed_in old.messages) messages count }) size;
+        few = record { few_nodes = omega (arith, empty); few_messages = omega (arith, counted, few_messages, mentioned, happened) };
+      }
+
+  pub is_finished : {E : Type 0} (taken left : List (List ℕ)) → taken ≡ told.nodes → left ≡ [] → (names : Result (List (List ℕ)) E)
+      → IfOk names (λ names. names ≡ taken) → IfOk names (IsFinished old (record told { nodes = left }))
+  is_finished taken left take none (Ok names) same = is_finished_with taken left take none names same
+  is_finished taken left take none (Err fault) same = tt

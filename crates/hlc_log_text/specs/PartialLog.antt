@@ -74,10 +74,25 @@ apart_text partial = record {
   questions = partial.questions;
 }
 
+-- what was read, with these names of nodes
+abbrev pub text_with : List (List ℕ) → PartialLog → LogText
+text_with nodes partial = record {
+  log = partial.log;
+  nodes = nodes;
+  messages = apart_count (unnamed_in partial.messages) (length partial.messages) (length partial.log.events);
+  labels = partial.labels;
+  questions = partial.questions;
+}
+
 -- what was read names few nodes, and mentions no more messages than it has events
 pub record HasFewNames (partial : PartialLog) : Type 0 where
   pub few_nodes : length partial.nodes ≤ MAX_NODES
   pub few_messages : length partial.messages ≤ length partial.log.events
+
+-- with these names of nodes, what was read is the text with its messages told apart
+pub record IsFinished (old new : PartialLog) (nodes : List (List ℕ)) : Type 0 where
+  pub text : text_with nodes new ≡ apart_text old
+  pub few : HasFewNames new
 
 -- records that say this were read so far, which begin on these lines
 pub record IsPartialLog (items : List LogItem) (lines : List ℕ) (partial : PartialLog) : Type 0 where

@@ -86,6 +86,13 @@ check_asked fields = check_of (line_in fields 1) (lines_in (drop 2 fields))
 abbrev pub relation_asked : Fields → Option Asked
 relation_asked fields = of_both (λ first second. Relation first second) (line_in fields 1) (line_in fields 2)
 
+-- the same where the line of the first event is there
+abbrev pub check_from : ℕ → Fields → Result Asked BadLog
+check_from line fields = ok_or (check_of (Some line) (lines_in (drop 2 fields))) bad.Number
+
+abbrev pub relation_from : ℕ → Fields → Result Asked BadLog
+relation_from first fields = ok_or (of_both (λ first second. Relation first second) (Some first) (line_in fields 2)) bad.Number
+
 -- how far the stamps of the node of a name ran ahead, if it may be a name
 abbrev pub drift_asked : List ℕ → Result Asked BadLog
 drift_asked name = if is_name name then Ok (Drift name) else Err bad.Name

@@ -18,7 +18,7 @@ use Rattle.hlc_log_text.specs.declared.log_text.LogText.{LogText}
 use Rattle.hlc_log_text.specs.declared.partial_log.PartialLog.{PartialLog}
 use Rattle.hlc_log_text.specs.LogItem.{LogItem, event_lines, events_in, item_after}
 use Rattle.hlc_log_text.specs.LogText.{IsTextOf, node_names}
-use Rattle.hlc_log_text.specs.PartialLog.{IsBadAfter, IsPartialLog}
+use Rattle.hlc_log_text.specs.PartialLog.{IsBadAfter, IsPartialLog, text_with}
 
 -- each of some records says what stands at its place, after those that say what stands before
 abbrev pub SayAfter : LogRules → (before : List LogItem) → List Fields → List LogItem → Type 0
@@ -74,6 +74,10 @@ pub record IsReadWhole (rules : LogRules) (most : ℕ) (bytes : Option (List ℕ
   pub make : SayItems rules records items
   pub held : IsTextOf items text
   pub on_lines : AreOnLines bytes items text.log.events
+
+-- so it is of what was read, with these names of nodes
+abbrev pub IsTextRead : LogRules → (most : ℕ) → (bytes : Option (List ℕ)) → PartialLog → (nodes : List (List ℕ)) → Type 0
+IsTextRead rules most bytes partial nodes = IsReadWhole rules most bytes (text_with nodes partial)
 
 -- the bytes begin with good records, fewer than the most, and then a bad one, on its line, which comes after as many others at least
 pub record IsReadUpToBad (rules : LogRules) (most : ℕ) (bytes : Option (List ℕ)) (b : BadLine) : Type 0 where

@@ -9,7 +9,7 @@ ghost use Rattle.hlc_log_text.specs.LogText.{apart_count, node_of, unnamed_in};
 ghost use Rattle.hlc_log_text.specs.LogWord.{log_word_of};
 ghost use Rattle.hlc_log_text.specs.Names.{with_name};
 ghost use Rattle.hlc_log_text.specs.NamedEvent.{carrying, if_sender, told_by};
-ghost use Rattle.hlc_log_text.specs.PartialLog.{AddsNext, AsksNext, HasFewNames, HasPlace, IsNextLine, IsPartialLog, NumbersNode, TakesNext, TakesOr, TakesSaid, TellsKind, apart_log, apart_text, nodes_named, told_line};
+ghost use Rattle.hlc_log_text.specs.PartialLog.{AddsNext, AsksNext, HasFewNames, HasPlace, IsFinished, IsNextLine, IsPartialLog, NumbersNode, TakesNext, TakesOr, TakesSaid, TellsKind, apart_log, nodes_named, text_with, told_line};
 ghost use Rattle.hlc_log_text.specs.Question.{plain_asked};
 
 use crate::bad_log::{BadLine, BadLog};
@@ -20,6 +20,7 @@ use crate::log_rules::LogRules;
 use crate::log_text::LogText;
 use crate::log_word::LogWord;
 use crate::name_set::NameSet;
+use crate::names::Names;
 use crate::question::LogQuestion;
 use crate::record_head::{Beside, NODE_PLACE, RecordHead, label, message_place, parse_carrying};
 use crate::stamp_form::StampForm;
@@ -28,6 +29,7 @@ use hlc_csv::{FoundRecord, field};
 use hlc_log::{Log, LogEvent, LogKind, MessageId, tell_apart};
 use hlc_stamp::{EventId, MAX_NODES, NodeId, Stamp};
 use std::alloc::{AllocError, Global};
+use std::mem;
 
 // What was read, with all names, and the line on which the last record begins: 0 if there is none.
 #[derive(Drop)]
@@ -211,24 +213,22 @@ impl PartialLog {
         if self.is_header(fields) {
             return Ok(self.take_header(rules.form, fields, line));
         }
-        match (LogWord::parse(field(fields, 0)), self.columns) {
-            (None, _) => self.take_question(rules, fields, line),
-            (Some(word), None) => {
-                let beside = Beside {
-                    carried: Some(None),
-                    from: None,
-                };
-                self.take_event(rules, word, fields, beside, line)
-            }
-            (Some(word), Some(columns)) => {
-                columns.arrange(rules.form, word, fields, arranged)?;
-                let beside = Beside {
-                    carried: columns.carried(rules.form, word, fields),
-                    from: columns.from(fields),
-                };
-                self.take_event(rules, word, arranged, beside, line)
-            }
-        }
+        let Some(word) = LogWord::parse(field(fields, 0)) else {
+            return self.take_question(rules, fields, line);
+        };
+        let Some(columns) = self.columns else {
+            let beside = Beside {
+                carried: Some(None),
+                from: None,
+            };
+            return self.take_event(rules, word, fields, beside, line);
+        };
+        columns.arrange(rules.form, word, fields, arranged)?;
+        let beside = Beside {
+            carried: columns.carried(rules.form, word, fields),
+            from: columns.from(fields),
+        };
+        self.take_event(rules, word, arranged, beside, line)
     }
 
     // Whether the next record is a header: it is the first, and begins as one does.
@@ -380,27 +380,36 @@ impl PartialLog {
         }
     }
 
-    // What was read, with its messages told apart. Nothing of a log tells the name of a message, so the memory of these names is given back.
-    pub(crate) fn into_text(mut self) -> Result<LogText, AllocError>
+    // Tells the messages without a name apart, and hands the names of the nodes out. With them, nothing that is left to do can fail.
+    pub(crate) fn finish(&mut self) -> Result<Names, AllocError>
+        requires { HasFewNames self.old }
+        ensures { IfOk result (IsFinished self.old self.new) }
+    {
+        self.tell_apart()?;
+        let alloc = *self.questions.allocator();
+        let nodes = mem::replace(&mut self.nodes, NameSet::new(alloc));
+        nodes.into_names()
+    }
+
+    // What was read, with the names of its nodes. Nothing of a log tells the name of a message, so the memory of these names is given back.
+    pub(crate) fn into_text(self, nodes: Names) -> LogText
         requires { HasFewNames self }
-        ensures { IfOk result (λ text. text ≡ apart_text self) }
+        ensures { result ≡ text_with nodes self }
     {
         let messages = self.message_count();
-        self.tell_apart()?;
         let PartialLog {
             log,
-            nodes,
             labels,
             questions,
             ..
         } = self;
-        Ok(LogText {
+        LogText {
             log,
-            nodes: nodes.into_names()?,
+            nodes,
             messages,
             labels,
             questions,
-        })
+        }
     }
 
     // The line that is told of the next record: its own, or the one after the line of the record before, if that is greater.

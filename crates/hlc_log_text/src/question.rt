@@ -1,8 +1,7 @@
-ghost use Rattle.std.specs.Prelude.{◌≡◌, IfOk, drop, ok_or, option_map};
+ghost use Rattle.std.specs.Prelude.{◌≡◌, IfOk, drop, option_map};
 ghost use Rattle.csv.specs.Records.{fields_of};
 ghost use Rattle.hlc_csv.specs.Number.{number_of};
-ghost use Rattle.hlc_log_text.specs.Question.{asked_by_word, asked_of, check_asked, drift_asked, line_in, lines_in, numbers_of, plain_asked, plain_read, relation_asked};
-ghost use Rattle.hlc_log_text.specs.declared.bad_log.BadLog.TheVariants as bad;
+ghost use Rattle.hlc_log_text.specs.Question.{asked_by_word, asked_of, check_from, drift_asked, line_in, lines_in, numbers_of, plain_read, relation_from};
 
 use crate::bad_log::BadLog;
 use crate::question_word::QuestionWord;
@@ -70,27 +69,28 @@ fn read_lines(
     read_numbers(alloc, fields, start, line_of)
 }
 
-// The question whether events explain the stamp of one, if all lines are numbers.
-fn read_check(alloc: Global, fields: &ByteRecord) -> Result<Option<LogQuestion>, AllocError>
-    ensures { IfOk result (λ question. option_map plain_asked question ≡ check_asked (fields_of fields.now)) }
+// The question whether events explain the stamp of the one on a line, if their lines are numbers.
+fn read_check(
+    alloc: Global,
+    line: Line,
+    fields: &ByteRecord,
+) -> Result<Result<LogQuestion, BadLog>, AllocError>
+    ensures { IfOk result (λ read. plain_read read ≡ check_from line.0 (fields_of fields.now)) }
 {
-    let Some(line) = line_at(fields, 1) else {
-        return Ok(None);
-    };
-    let Some(chain) = read_lines(alloc, fields, 2)? else {
-        return Ok(None);
-    };
-    Ok(Some(LogQuestion::Check { line, chain }))
+    match read_lines(alloc, fields, 2)? {
+        Some(chain) => Ok(Ok(LogQuestion::Check { line, chain })),
+        None => Ok(Err(BadLog::Number)),
+    }
 }
 
-// The question how two events stand in happened-before, if both lines are numbers.
-fn read_relation(fields: &ByteRecord) -> Option<LogQuestion>
-    ensures { option_map plain_asked result ≡ relation_asked (fields_of fields.now) }
+// The question how the event on a line and another stand in happened-before, if the line of the other is a number.
+fn read_relation(first: Line, fields: &ByteRecord) -> Result<LogQuestion, BadLog>
+    ensures { plain_read result ≡ relation_from first.0 (fields_of fields.now) }
 {
-    Some(LogQuestion::Relation {
-        first: line_at(fields, 1)?,
-        second: line_at(fields, 2)?,
-    })
+    match line_at(fields, 2) {
+        Some(second) => Ok(LogQuestion::Relation { first, second }),
+        None => Err(BadLog::Number),
+    }
 }
 
 // The question about the node of this name, if a node may have such a name.
@@ -104,13 +104,6 @@ fn read_drift(alloc: Global, name: &[u8]) -> Result<Result<LogQuestion, BadLog>,
     Ok(Ok(LogQuestion::Drift(name)))
 }
 
-// A question that was read, unless a field is no number.
-fn or_number(question: Option<LogQuestion>) -> Result<LogQuestion, BadLog>
-    ensures { plain_read result ≡ ok_or (option_map plain_asked question) bad.Number }
-{
-    question.ok_or(BadLog::Number)
-}
-
 // What a record of a word and as many fields as it has asks.
 fn make_question(
     alloc: Global,
@@ -119,15 +112,15 @@ fn make_question(
 ) -> Result<Result<LogQuestion, BadLog>, AllocError>
     ensures { IfOk result (λ read. plain_read read ≡ asked_by_word word (fields_of fields.now)) }
 {
-    let line = line_at(fields, 1);
-    match word {
-        QuestionWord::Explain => Ok(or_number(line.map(|line| LogQuestion::Explain(line)))),
-        QuestionWord::Check => Ok(or_number(read_check(alloc, fields)?)),
-        QuestionWord::Relation => Ok(or_number(read_relation(fields))),
-        QuestionWord::Influenced => Ok(or_number(line.map(|line| LogQuestion::Influenced(line)))),
-        QuestionWord::Drift => read_drift(alloc, field(fields, 1)),
-        QuestionWord::Claimed => Ok(or_number(line.map(|line| LogQuestion::Claimed(line)))),
-        QuestionWord::Event => Ok(or_number(line.map(|line| LogQuestion::Event(line)))),
+    match (word, line_at(fields, 1)) {
+        (QuestionWord::Drift, _) => read_drift(alloc, field(fields, 1)),
+        (_, None) => Ok(Err(BadLog::Number)),
+        (QuestionWord::Explain, Some(line)) => Ok(Ok(LogQuestion::Explain(line))),
+        (QuestionWord::Check, Some(line)) => read_check(alloc, line, fields),
+        (QuestionWord::Relation, Some(line)) => Ok(read_relation(line, fields)),
+        (QuestionWord::Influenced, Some(line)) => Ok(Ok(LogQuestion::Influenced(line))),
+        (QuestionWord::Claimed, Some(line)) => Ok(Ok(LogQuestion::Claimed(line))),
+        (QuestionWord::Event, Some(line)) => Ok(Ok(LogQuestion::Event(line))),
     }
 }
 

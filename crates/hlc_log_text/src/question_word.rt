@@ -1,5 +1,5 @@
 /// The word with which a question begins.
-#[derive(Clone, Copy, PartialEq, Eq)]
+#[derive(Clone, Copy)]
 pub(crate) enum QuestionWord {
     /// `explain,LINE`.
     Explain,

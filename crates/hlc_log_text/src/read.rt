@@ -1,12 +1,13 @@
 ghost use Rattle.std.specs.Prelude.{◌≤◌, ℕ, All, List, [], Option, IfErr, IfOk, MatchResult, OnOk, length};
 ghost use Rattle.hlc_log.specs.Events.{IsInRange, IsNumbered};
 ghost use Rattle.hlc_csv.specs.RecordReader.{HasReadTo};
-ghost use Rattle.hlc_log_text.specs.ReadLog.{ExplainsFault, IsReadInto, IsReadWhole};
+ghost use Rattle.hlc_log_text.specs.ReadLog.{ExplainsFault, IsReadInto, IsReadWhole, IsTextRead};
 ghost use Rattle.hlc_log_text.specs.PartialLog.{HasFewNames, IsPartialLog};
 
 use crate::fault::LogTextFault;
 use crate::log_rules::LogRules;
 use crate::log_text::LogText;
+use crate::names::Names;
 use crate::partial_log::PartialLog;
 use csv::ByteRecord;
 use hlc_csv::RecordReader;
@@ -44,7 +45,27 @@ fn read_records<R: Read + Drop>(
     }
 }
 
-// The log that a reader reads, of which nothing is read yet. Whoever owns the reader has one way out only, on which it is dropped.
+// Reads a log to its end and tells its messages without a name apart. Answers the names of its nodes.
+fn read_whole<R: Read + Drop>(
+    input: &mut RecordReader<R>,
+    fields: &mut ByteRecord,
+    arranged: &mut ByteRecord,
+    rules: LogRules,
+    most: u32,
+    reading: &mut PartialLog,
+) -> Result<Names, LogTextFault>
+    requires none_yet { IsPartialLog [] [] reading.old }
+    requires most { most ≤ MAX_CAPACITY }
+    ensures read { (bytes : Option (List ℕ)) → HasReadTo R.remaining input.old bytes [] []
+        → MatchResult result (IsTextRead rules most bytes reading.new) (ExplainsFault rules most bytes) }
+    ensures few { OnOk result (HasFewNames reading.new) }
+{
+    read_records(input, fields, arranged, rules, most, reading)?;
+    Ok(reading.finish()?)
+}
+
+// The log that a reader reads, of which nothing is read yet. Whoever owns the reader, or what was read, has few ways out, since what he owns is
+// dropped on each.
 fn read_text<R: Read + Drop>(
     alloc: Global,
     input: &mut RecordReader<R>,
@@ -58,8 +79,8 @@ fn read_text<R: Read + Drop>(
         → MatchResult result (IsReadWhole rules most bytes) (ExplainsFault rules most bytes) }
 {
     let mut reading = PartialLog::new(alloc);
-    read_records(input, fields, arranged, rules, most, &mut reading)?;
-    Ok(reading.into_text()?)
+    let nodes = read_whole(input, fields, arranged, rules, most, &mut reading)?;
+    Ok(reading.into_text(nodes))
 }
 
 /// Reads a log of at most so many records to its end.

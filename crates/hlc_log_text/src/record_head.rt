@@ -25,7 +25,7 @@ const READING_PLACE: usize = 2;
 const STAMP_PLACE: usize = 3;
 
 // What a record of a log says, but for its names.
-#[derive(Clone, Copy, PartialEq, Eq)]
+#[derive(Clone, Copy)]
 pub(crate) struct RecordHead {
     pub(crate) word: LogWord,
     pub(crate) reading: u64,

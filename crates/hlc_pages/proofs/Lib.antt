@@ -1,4 +1,5 @@
 pub mod Paging
+pub mod PageGrowth
 pub mod Spans
 pub mod LogPages
 pub mod PageCopies

@@ -1,14 +1,16 @@
 -- The last page of a log, and what an entry at its end makes of the log.
-use Rattle.std.proofs.Common.{◌≡◌, ℕ, zero, suc, ◌+◌, ◌-◌, ◌/◌, ◌<◌, ◌≤◌, inl, inr, List, [], ◌∷◌, ◌++◌, length, length-append, get_or, set, take, arith, refl, sym, ap, subst, ◌∙◌, append_assoc}
+use Rattle.std.proofs.Common.{◌≡◌, ℕ, zero, suc, ◌+◌, ◌-◌, ◌/◌, ◌<◌, ◌≤◌, inl, inr, List, [], ◌∷◌, ◌++◌, length, length-append, get_or, set, take, ◌⊎◌, arith, refl, sym, ap, subst, ◌∙◌, append_assoc}
 use Rattle.std.specs.Prelude.{Some, slice_get, slice_range}
 use Rattle.std.specs.Io.{StartsWith}
 use Rattle.std.specs.Vec.{vec_capacity}
 use Rattle.std.proofs.lemmas.Bool.{cases_eq}
 use Rattle.std.proofs.lemmas.Option.{get_or_from_slice_get}
-use Rattle.std.proofs.lemmas.List.{drop_at, get_or-map, get_or-set_other, get_or-set_same, get_or_push, length-map, length_push, length-set, map-set, take_all, take_at}
+use Rattle.std.proofs.lemmas.List.Elements.{All-push}
+use Rattle.std.proofs.lemmas.List.{drop_at, get_or-map, get_or-set_other, get_or-set_same, get_or_push, length-map, length_push, length-set, map-append, map-set, take_all, take_at}
 use Rattle.hlc_pages.specs.Log.{AreLogPages, Extends, IsWithin, Log, LogPage, bytes_of, key_in, log_of, page_at, room_in, value_in}
 use Rattle.hlc_pages.specs.declared.span.Span.{Span}
-use Rattle.hlc_pages.proofs.Spans.{starts_itself}
+use Rattle.hlc_pages.specs.Growth.{HasNewPage}
+use Rattle.hlc_pages.proofs.Spans.{extends_itself, starts_itself}
 
 -- the room is that of the last page
 pub room_of_last : (pages : List (List ℕ)) (last : ℕ) → length pages ≡ last + 1
@@ -171,3 +173,33 @@ module _ {a : Log} {pages : List LogPage} {last : ℕ} {page : LogPage} (h : IsL
         let before = room_of_log in
         let now = room_of_last after last length-after in
         omega arith
+
+begins_as_before : (pages more : List (List ℕ)) (p : ℕ) → StartsWith (page_at (pages ++ more) p) (page_at pages p)
+begins_as_before [] more p = refl
+begins_as_before (page ∷ pages) more zero = starts_itself page
+begins_as_before (page ∷ pages) more (suc p) = begins_as_before pages more p
+
+-- a page more
+pub room_in_new_page : {old new : List LogPage} → HasNewPage 65536 old new → 0 < room_in (bytes_of new)
+room_in_new_page {old} {new} added =
+    subst (λ (pages : List LogPage). 0 < room_in (bytes_of pages)) (sym added.is) (room_of_new old added.page added.empty)
+
+module _ {old new : List LogPage} (grown : HasNewPage 65536 old new ⊎ (new ≡ old)) where
+  pub log_pages-grown : length old < 4294967296 → AreLogPages old → AreLogPages new
+  log_pages-grown few are = elim grown [
+    | inl added ↦ subst AreLogPages (sym added.is) (record {
+      count = let size = length_push old added.page in omega arith;
+      space = All-push (λ (page : LogPage). 65536 ≤ vec_capacity page) old added.page are.space added.space;
+    })
+    | inr same ↦ subst AreLogPages (sym same) are
+  ]
+
+  pub extends-grown : Extends (bytes_of old) (bytes_of new)
+  extends-grown = elim grown [
+    | inl added ↦
+        subst (Extends (bytes_of old)) (sym (ap bytes_of added.is ∙ map-append (λ (page : LogPage). page.items) old (added.page ∷ []))) (record {
+          count = let size = length_push (bytes_of old) added.page.items in omega arith;
+          begins = begins_as_before (bytes_of old) (added.page.items ∷ []);
+        })
+    | inr same ↦ subst (λ (pages : List LogPage). Extends (bytes_of old) (bytes_of pages)) (sym same) (extends_itself (bytes_of old))
+  ]

@@ -3,7 +3,8 @@ use Rattle.std.proofs.Common.{◌≡◌, ℕ, zero, suc, ◌+◌, ◌-◌, ◌*�
 use Rattle.std.specs.Prelude.{slice_set, vec_len}
 use Rattle.std.specs.Vec.{vec_capacity, with_item}
 use Rattle.std.proofs.lemmas.Bool.{cases_lt}
-use Rattle.std.proofs.lemmas.List.{append-nil, get_or-append-add, get_or_append_left, nil_from_length, set-append_left, set-append_right}
+use Rattle.std.proofs.lemmas.List.{append-nil, get_or-append-add, get_or_append_left, length_push, nil_from_length, set-append_left, set-append_right}
+use Rattle.hlc_pages.specs.Growth.{HasNewPage}
 use Rattle.hlc_pages.specs.Pages.{ArePages, IsPage, Page, PagedItems, items_in, paged_items}
 
 module _ {X : Type 0} where
@@ -202,3 +203,21 @@ module _ {X : Type 0} where
     pub items-more : (pages : List (Page X)) → items_in (pages ++ page ∷ []) ≡ items_in pages
     items-more [] = append-nil page.items ∙ empty
     items-more (other ∷ pages) = ap (λ (items : List X). other.items ++ items) (items-more pages)
+
+  module _ {old new : List (Page X)} (grown : HasNewPage 1024 old new ⊎ (new ≡ old)) where
+    pub pages-grown : (left : ℕ) → ArePages old left → ArePages new left
+    pages-grown left h = elim grown [
+      | inl added ↦ subst (λ (pages : List (Page X)). ArePages pages left) (sym added.is) (pages-more added.page added.empty added.space old left h)
+      | inr same ↦ subst (λ (pages : List (Page X)). ArePages pages left) (sym same) h
+    ]
+
+    pub items-grown : items_in new ≡ items_in old
+    items-grown = elim grown [
+      | inl added ↦ ap items_in added.is ∙ items-more added.page added.empty old
+      | inr same ↦ ap items_in same
+    ]
+
+  pub room_in_new_page : {old new : List (Page X)} (left : ℕ) → ArePages old left → HasNewPage 1024 old new → 0 < 1024 * length new - left
+  room_in_new_page {old} {new} left h added =
+      let size = ap length added.is ∙ length_push old added.page in
+      omega (arith, room_for old left h)

@@ -3,6 +3,7 @@ ghost use Rattle.std.specs.Vec.{vec_capacity};
 ghost use Rattle.hlc_pages.specs.Log.{Extends, IsWithin, key_in, value_in};
 
 use crate::copies::copy_pages;
+use crate::growth::add_page;
 use crate::span::Span;
 use hlc_stamp::{MAX_KEY_LEN, MAX_VALUE_LEN};
 use std::alloc::{AllocError, Global};
@@ -85,11 +86,7 @@ impl ByteLog {
         if self.pages.len() >= MAX_PAGES {
             return Err(AllocError);
         }
-        self.pages.reserve(1)?;
-        let alloc = *self.pages.allocator();
-        let page = Vec::with_capacity(alloc, PAGE_BYTES)?;
-        self.pages.push_reserved(page);
-        Ok(())
+        add_page(&mut self.pages, PAGE_BYTES)
     }
 
     /// Puts a key and its value at the end, and says where they lie. It takes no memory, but room for one entry at most.

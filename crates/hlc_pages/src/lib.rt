@@ -35,6 +35,7 @@
 mod byte_log;
 mod bytes;
 mod copies;
+mod growth;
 mod link;
 mod pages;
 mod span;

@@ -2,6 +2,7 @@ ghost use Rattle.std.specs.Prelude.{◌≡◌, ◌+◌, ◌-◌, ◌^◌, ◌<�
 ghost use Rattle.std.specs.Borrow.{sem};
 
 use crate::copies::copy_pages;
+use crate::growth::add_page;
 use std::alloc::{AllocError, Global};
 use std::marker::Model;
 
@@ -71,11 +72,7 @@ impl<T> Pages<T> {
         if self.has_room() {
             return Ok(());
         }
-        self.pages.reserve(1)?;
-        let alloc = *self.pages.allocator();
-        let page = Vec::with_capacity(alloc, PAGE_LEN)?;
-        self.pages.push_reserved(page);
-        Ok(())
+        add_page(&mut self.pages, PAGE_LEN)
     }
 
     /// Puts an item at the end. It takes no memory, but the room for one item.

@@ -102,10 +102,11 @@ impl fmt::Display for Course {
                 y: border_y,
             },
         );
-        match border {
-            Border::Upper => write!(f, "{border_end} {turn} {dot}"),
-            Border::Lower => write!(f, "{dot} {turn} {border_end}"),
-        }
+        let (first, last) = match border {
+            Border::Upper => (border_end, dot),
+            Border::Lower => (dot, border_end),
+        };
+        write!(f, "{first} {turn} {last}")
     }
 }
 

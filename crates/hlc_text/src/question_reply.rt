@@ -1,8 +1,9 @@
-ghost use Rattle.std.specs.Prelude.{◌≡◌, [], ◌∷◌, ◌++◌, IfOk, OnOk};
+ghost use Rattle.std.specs.Prelude.{◌≡◌, [], ◌∷◌, ◌++◌, false, bytes_eq, codes, IfOk, OnOk};
 ghost use Rattle.hlc_stamp.specs.Ids.{places_of};
 ghost use Rattle.hlc_causality.specs.ReceiveEvents.{plain_rules};
 ghost use Rattle.hlc_execution.specs.Execution.{HasLeastClockStamps};
 ghost use Rattle.hlc_arena.specs.History.{causality_of, stamps_of};
+ghost use Rattle.hlc_csv.specs.Rows.{number_row};
 ghost use Rattle.hlc_text.specs.Questions.{chain_fields, check_row, drift_row, inbox_row, influenced_fields, relation_fields, rows_for};
 ghost use Rattle.hlc_text.specs.Statement as asked;
 ghost use Rattle.hlc_text.specs.Statement.{plain_question};
@@ -47,6 +48,27 @@ fn push_events(numbers: &mut Vec<u64>, events: &[EventId]) -> Result<(), AllocEr
     Ok(())
 }
 
+// The row of a word, numbers, those of events, and a last word if there is one.
+fn numbers_row(
+    alloc: Global,
+    word: &'static [u8],
+    first: &[u64],
+    events: &[EventId],
+    last: Option<&'static [u8]>,
+) -> Result<Reply<'static>, AllocError>
+    requires { bytes_eq word.now (codes "refused") ≡ false }
+    ensures { IfOk result (λ reply. rows_of_reply reply ≡ number_row word.now (first.now ++ places_of events.now) last.entry ∷ []) }
+{
+    let mut numbers = Vec::new(alloc);
+    numbers.extend_from_slice(first)?;
+    push_events(&mut numbers, events)?;
+    Ok(Reply::Numbers(NumberRow {
+        word,
+        numbers,
+        last,
+    }))
+}
+
 // The row of an event's chain.
 fn chain_row(
     alloc: Global,
@@ -56,13 +78,8 @@ fn chain_row(
 ) -> Result<Reply<'static>, AllocError>
     ensures { IfOk result (λ reply. rows_of_reply reply ≡ chain_fields event.0 stamp (places_of chain.now) ∷ []) }
 {
-    let mut numbers = vec![in alloc; u64::from(event.0), stamp.l, u64::from(stamp.c)]?;
-    push_events(&mut numbers, chain)?;
-    Ok(Reply::Numbers(NumberRow {
-        word: b"chain",
-        numbers,
-        last: None,
-    }))
+    let numbers = [u64::from(event.0), stamp.l, u64::from(stamp.c)];
+    numbers_row(alloc, b"chain", &numbers, chain, None)
 }
 
 // The row of whether a list explains the stamp of the event of a number.
@@ -73,11 +90,8 @@ fn check_row(
 ) -> Result<Reply<'static>, AllocError>
     ensures { IfOk result (λ reply. rows_of_reply reply ≡ check_row number.0 explains ∷ []) }
 {
-    Ok(Reply::Numbers(NumberRow {
-        word: b"check",
-        numbers: vec![in alloc; number.0]?,
-        last: Some(yes_or_no(explains)),
-    }))
+    let answer = yes_or_no(explains);
+    numbers_row(alloc, b"check", &[number.0], &[], Some(answer))
 }
 
 // The row of how two events stand in happened-before.
@@ -89,11 +103,8 @@ fn relation_row(
 ) -> Result<Reply<'static>, AllocError>
     ensures { IfOk result (λ reply. rows_of_reply reply ≡ relation_fields first.0 second.0 relation ∷ []) }
 {
-    Ok(Reply::Numbers(NumberRow {
-        word: b"relation",
-        numbers: vec![in alloc; u64::from(first.0), u64::from(second.0)]?,
-        last: Some(relation.word()),
-    }))
+    let numbers = [u64::from(first.0), u64::from(second.0)];
+    numbers_row(alloc, b"relation", &numbers, &[], Some(relation.word()))
 }
 
 // The row of the events that an event happened before.
@@ -104,13 +115,8 @@ fn influenced_row(
 ) -> Result<Reply<'static>, AllocError>
     ensures { IfOk result (λ reply. rows_of_reply reply ≡ influenced_fields event.0 (places_of influenced.now) ∷ []) }
 {
-    let mut numbers = vec![in alloc; u64::from(event.0)]?;
-    push_events(&mut numbers, influenced)?;
-    Ok(Reply::Numbers(NumberRow {
-        word: b"influenced",
-        numbers,
-        last: None,
-    }))
+    let event = u64::from(event.0);
+    numbers_row(alloc, b"influenced", &[event], influenced, None)
 }
 
 // The row of a node's drift.
@@ -125,17 +131,10 @@ fn drift_row(
     match drift {
         Some(drift) => {
             let (event, origin) = (u64::from(drift.event.0), u64::from(drift.origin.0));
-            Ok(Reply::Numbers(NumberRow {
-                word: b"drift",
-                numbers: vec![in alloc; node, drift.ahead, event, origin]?,
-                last: None,
-            }))
+            let numbers = [node, drift.ahead, event, origin];
+            numbers_row(alloc, b"drift", &numbers, &[], None)
         }
-        None => Ok(Reply::Numbers(NumberRow {
-            word: b"drift",
-            numbers: vec![in alloc; node]?,
-            last: Some(b"none"),
-        })),
+        None => numbers_row(alloc, b"drift", &[node], &[], Some(b"none")),
     }
 }
 

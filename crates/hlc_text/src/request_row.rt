@@ -26,10 +26,12 @@ pub(crate) fn push_request<W: Write>(
             &[Text(b"write"), by, when, Text(key), Text(value)],
             writer,
         ),
-        ActionRef::Erase { key } => rows.push(&[Text(b"erase"), by, when, Text(key)], writer),
+        ActionRef::Erase { key } => {
+            rows.push_numbers(b"erase", &[node, reading], Some(key), writer)
+        }
         ActionRef::Send { to, key } => {
-            let to = Number(u64::from(to.0));
-            rows.push(&[Text(b"send"), by, when, to, Text(key)], writer)
+            let numbers = [node, reading, u64::from(to.0)];
+            rows.push_numbers(b"send", &numbers, Some(key), writer)
         }
         ActionRef::Sync { to } => {
             rows.push_numbers(b"sync", &[node, reading, u64::from(to.0)], None, writer)

@@ -1,5 +1,5 @@
 /// The word with which a record begins.
-#[derive(Clone, Copy, PartialEq, Eq)]
+#[derive(Clone, Copy)]
 pub(crate) enum Word {
     /// `write,NODE,READING,KEY,VALUE`.
     Write,

@@ -1,19 +1,15 @@
 -- What clap's builder makes of an argument.
-use Rattle.std.proofs.Common.{◌≡◌, ◌∙◌, inl, inr, Bool, false, Option, Some, ap, ap₂, refl, subst, sym}
-use Rattle.std.specs.Prelude.{◌⊎◌, ℤ}
+use Rattle.std.proofs.Common.{◌≡◌, ◌∙◌, inl, inr, Bool, Option, Some, ap, ap₂, refl, sym}
+use Rattle.std.specs.Prelude.{◌⊎◌}
 use Rattle.std.specs.Borrow.{Bor}
-use Rattle.clap.specs.Words.{NarrowsTo, Rule, Text, new_rule, rule_of}
+use Rattle.clap.specs.Words.{Rule, Text, new_rule, rule_of}
 use Rattle.clap.specs.declared.builder.action.ArgAction.{ArgAction}
 use Rattle.clap.specs.declared.builder.arg.Arg.{Arg}
 use Rattle.clap.specs.declared.builder.texts.Texts.TheVariants.{One}
 use Rattle.clap.specs.declared.builder.value_parser.ValueParser.{ValueParser}
-use Rattle.hlc_command_line.specs.Rules.{rule_taking}
+use Rattle.hlc_command_line.specs.Rules.{IsArgument, bare_rule, rule_taking}
 use Rattle.hlc_command_line.specs.declared.option_rule.Takes.{Takes}
 use Rattle.hlc_command_line.specs.declared.option_rule.Takes.TheVariants as takes
-
--- clap was told just this of the argument, and of no subcommand that has it too
-abbrev pub IsArgument : Arg → Rule → Type 0
-IsArgument a r = (rule_of a ≡ r) × (a.global ≡ false)
 
 module _ (old new : Arg) (r : Rule) (is : IsArgument old r) where
   pub has_long : (name : Bor Text) → new ≡ record old { long = Some name } → IsArgument new (record r { long = Some name.now })
@@ -39,29 +35,19 @@ module _ (old new : Arg) (r : Rule) (is : IsArgument old r) where
     ap (λ (a : Arg). a.global) e ∙ is.1,
   )
 
--- what is told of each option: whether it is required, and what is done where it is given
-abbrev told_rule : Text → Bool → Option ArgAction → Rule
-told_rule name required action = record (new_rule name) { long = Some name; required = required; action = action }
+module _ (name : Text) (t : Takes) where
+  -- what an option takes says whether it is required, and what is done where it is given
+  pub told_bare : (required : Bool) (action : ArgAction) → ((n : Text) → (rule_taking n t).required ≡ required)
+      → ((n : Text) → (rule_taking n t).action ≡ Some action)
+      → record (new_rule name) { long = Some name; required = required; action = Some action } ≡ bare_rule name t
+  told_bare required action needed acts =
+      sym (ap₂ (λ (r : Bool) (a : Option ArgAction). record (new_rule name) { long = Some name; required = r; action = a }) (needed name) (acts name))
 
-module _ (name : Text) (t : Takes) (required : Bool) (action : ArgAction)
-    (needed : (n : Text) → (rule_taking n t).required ≡ required) (acts : (n : Text) → (rule_taking n t).action ≡ Some action) where
-  told_same : told_rule name (rule_taking name t).required (rule_taking name t).action ≡ told_rule name required (Some action)
-  told_same = ap₂ (told_rule name) (needed name) (acts name)
-
-  pub takes_nothing : t ≡ takes.Nothing → told_rule name required (Some action) ≡ rule_taking name t
-  takes_nothing is = sym told_same ∙ rw is refl
+  pub takes_nothing : t ≡ takes.Nothing → bare_rule name t ≡ rule_taking name t
+  takes_nothing is = rw is refl
 
   pub takes_some : (value : Bor Text) (parser read : ValueParser) → read ≡ parser
       → ((r : Bool) × (t ≡ takes.One value parser r)) ⊎ (t ≡ takes.Many value parser)
-      → record (record (told_rule name required (Some action)) { value_names = 1 }) { parser = Some read } ≡ rule_taking name t
-  takes_some value parser read same (inl is) =
-      ap₂ (λ (x : Rule) (p : ValueParser). record (record x { value_names = 1 }) { parser = Some p }) (sym told_same) same ∙ rw is.1 refl
-  takes_some value parser read same (inr is) =
-      ap₂ (λ (x : Rule) (p : ValueParser). record (record x { value_names = 1 }) { parser = Some p }) (sym told_same) same ∙ rw is refl
-
--- a parser that is narrowed to a range, if the parser and the range's ends are known
-pub narrowed : (all given made : ValueParser) (first last low high : ℤ) → all ≡ given → first ≡ low → last ≡ high
-    → NarrowsTo all (Some first) (Some last) made → NarrowsTo given (Some low) (Some high) made
-narrowed all given made first last low high e f l is =
-    subst (λ (p : ValueParser). NarrowsTo p (Some low) (Some high) made) e
-    (subst (λ (i : ℤ). NarrowsTo all (Some i) (Some high) made) f (subst (λ (i : ℤ). NarrowsTo all (Some first) (Some i) made) l is))
+      → record (record (bare_rule name t) { value_names = 1 }) { parser = Some read } ≡ rule_taking name t
+  takes_some value parser read same (inl is) = rw same (rw is.1 refl)
+  takes_some value parser read same (inr is) = rw same (rw is refl)

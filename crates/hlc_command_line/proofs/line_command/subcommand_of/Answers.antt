@@ -1,14 +1,18 @@
-use Rattle.std.proofs.Common.{subst}
-use Rattle.clap.specs.Built.{AddsArg, AddsInTurn}
-use Rattle.hlc_command_line.specs.Line.{subcommand_named}
-use Rattle.hlc_command_line.specs.Subcommand.{IsCommand, app_of_subcommand}
-use Rattle.hlc_command_line.proofs.App.Commands.{adds_options, if_ok}
+use Rattle.std.proofs.Common.{◌∙◌, List, ap, subst}
+use Rattle.std.proofs.lemmas.List.{take_all}
+use Rattle.clap.specs.Words.{new_app}
+use Rattle.hlc_command_line.specs.Rules.{with_options_of}
+use Rattle.hlc_command_line.specs.Subcommand.{IsCommand}
+use Rattle.hlc_command_line.specs.declared.option_rule.OptionRule.{OptionRule}
+use Rattle.hlc_command_line.proofs.App.Commands.{option_more}
 use Rattle.hlc_command_line.proofs.line_command.subcommand_of.Goals as goal
+
+pub loop-option-preserved : goal.loop-option-preserved
+loop-option-preserved c a is =
+    option_more _ _ a _ _ _ _ c.loop-option-test.true (c.loop-option.invariant a is) c.argument.ensures c.in_ok-command.ensures
 
 pub returns : goal.returns
 returns c =
-    let bare = c.bare_command.result in
-    let options = c.in_ok-options.options.items in
-    if_ok {P = AddsInTurn AddsArg bare options} {Q = λ d. IsCommand d (app_of_subcommand (subcommand_named c.args.name))} c.args-2.result c.args-2.ensures
-    (λ d adds. subst (IsCommand d) c.subcommand_rule-rule.ensures
-    (adds_options bare d _ options _ c.bare_command.ensures c.in_ok-options.ensures.rules c.in_ok-options.ensures.local adds))
+    let rule = c.subcommand_rule-rule.result in
+    let all = ap (λ (rules : List OptionRule). with_options_of rules (new_app rule.name.now)) (take_all _ _ c.loop-option-test.false) in
+    subst (IsCommand c.loop-option.command) (all ∙ c.subcommand_rule-rule.ensures) (c.loop-option.invariant _ c.bare_command-command.ensures)

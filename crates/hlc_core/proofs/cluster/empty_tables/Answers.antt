@@ -14,18 +14,20 @@ loop-node-init c =
     record {
       one_each = ap length none;
       empty = subst (All IsEmpty) (sym none) (All-nil IsEmpty);
+      space = c.in_ok-tables.ensures.capacity;
     }
 
 pub loop-node-preserved : goal.loop-node-preserved
 loop-node-preserved c =
     let before = c.loop-node.tables.items in
     let table = c.new.result in
-    let more = c.in_ok-push.ensures.items in
+    let more = c.push_reserved.ensures.items in
     let counts = length-append before (table ∷ []) in
     let one = All-cons IsEmpty table [] c.new.ensures (All-nil IsEmpty) in
     record {
       one_each = ap length more ∙ omega (arith, counts, c.loop-node.invariant.one_each);
       empty = subst (All IsEmpty) (sym more) (All-append IsEmpty before (table ∷ []) c.loop-node.invariant.empty one);
+      space = omega (arith, c.loop-node.invariant.space, c.push_reserved.ensures.capacity);
     }
 
 pub returns-clause-one_each : goal.returns-clause-one_each

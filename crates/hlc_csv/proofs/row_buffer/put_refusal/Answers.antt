@@ -1,9 +1,11 @@
-use Rattle.std.proofs.Common.{◌∙◌}
-use Rattle.hlc_csv.proofs.RowTextFacts.{text_of_row-refusal}
+use Rattle.std.proofs.Common.{◌∙◌, ◌∷◌, [], refl}
+use Rattle.std.proofs.lemmas.Result.{on_ok_weaker}
+use Rattle.hlc_csv.proofs.RowTextFacts.{on_ok-added, text_of_row-refusal}
 use Rattle.hlc_csv.proofs.row_buffer.put_refusal.Goals as goal
 
 pub returns : goal.returns
 returns c =
     let word = rw c.in_ok-extend_from_slice.ensures.items at c.in_ok-put_text.ensures in
-    let row = rw word at c.in_ok-push.ensures.items in
-    row ∙ text_of_row-refusal c.args.text.now.items c.args.word.now
+    let last = c.extend_from_slice-2 in
+    let row = on_ok-added last.result _ last.new.self.items _ (10 ∷ []) (rw word at last.ensures.items) refl in
+    on_ok_weaker last.result (λ items. items ∙ text_of_row-refusal c.args.text.now.items c.args.word.now) row

@@ -1,4 +1,4 @@
-use Rattle.std.proofs.Common.{◌++◌, map, string_bytes}
+use Rattle.std.proofs.Common.{◌∙◌, ◌++◌, List, ℕ, ap, append_assoc, map, string_bytes}
 use Rattle.std.proofs.lemmas.Result.{on_ok_weaker}
 use Rattle.hlc_causality.specs.Places.{places_below}
 use Rattle.hlc_figures.specs.Head.{description_text, ground_text, head_text, heading_of, headings_text, root_text}
@@ -18,11 +18,10 @@ returns g c =
     let old = string_bytes c.args.text.now in
     let one = string_bytes c.put_root.new.text in
     let two = string_bytes c.put_description.new.text in
-    let three = string_bytes c.put_style.new.text in
-    let four = string_bytes c.put_ground.new.text in
+    let three = string_bytes c.put_ground.new.text in
     let new = string_bytes c.put_headings.new.text in
     on_ok_weaker c.put_headings.result (λ e.
     then_added old one new root (description ++ (STYLE.now ++ (ground ++ headings))) c.in_ok-put_root.ensures
     (then_added one two new description (STYLE.now ++ (ground ++ headings)) c.in_ok-put_description.ensures
-    (then_added two three new STYLE.now (ground ++ headings) c.in_ok-put_style.ensures
-    (then_added three four new ground headings c.in_ok-put_ground.ensures e)))) c.put_headings.ensures
+    (then_added two three new (STYLE.now ++ ground) headings c.in_ok-put_ground.ensures e
+    ∙ ap (λ (t : List ℕ). two ++ t) (append_assoc STYLE.now ground headings)))) c.put_headings.ensures

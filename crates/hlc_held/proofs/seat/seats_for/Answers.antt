@@ -9,20 +9,22 @@ pub loop-node-preserved : goal.loop-node-preserved
 loop-node-preserved g c = (
   omega arith,
   omega arith,
-  c.in_ok-push.ensures.items
+  c.push_reserved.ensures.items
       ∙ (rw (c.new.ensures.items, c.loop-node.invariant.2) (sym (map-range_with_len_more (λ n. node_log n []) 0 c.loop-node.node c.loop-node.node (omega arith)))),
+  omega arith,
+  c.push_reserved.ensures.capacity ∙ c.loop-node.invariant.4,
 )
 
 pub loop-node-init : goal.loop-node-init
-loop-node-init g c = (omega (arith, c.requires.parts), c.requires.nothing_counted, c.in_ok-seats.ensures.items)
+loop-node-init g c = (omega (arith, c.requires.parts), c.requires.nothing_counted, c.in_ok-seats.ensures.items, c.in_ok-seats.ensures.len, c.in_ok-seats.ensures.exact)
 
 pub split_off-share-requires : goal.split_off-share-requires
 split_off-share-requires g c =
     let h = c.loop-node.invariant in
     record { has_parts = omega (arith, h.0, c.loop-node-test.true); has_amount = omega arith; left_backed = λ last. sym h.1; given_backed = λ none. refl }
 
-pub invariant_of-push : goal.invariant_of-push
-invariant_of-push g c =
+pub invariant_of-push_reserved : goal.invariant_of-push_reserved
+invariant_of-push_reserved g c =
     let share = c.split_off-share.ensures in
     record {
       node = omega (arith, c.loop-node-test.true, c.requires.nodes);

@@ -1,3 +1,6 @@
+use Rattle.std.proofs.Common.{◌≡◌, ◌++◌}
+use Rattle.std.proofs.lemmas.List.{take-append-drop}
+use Rattle.std.proofs.lemmas.Result.{err_from_is_err_and}
 use Rattle.hlc_shared.proofs.Halves.{halves}
 use Rattle.hlc_shared.proofs.jobs.+fn-run_jobs-fn-scope-there+fn-run_jobs-scope+run_jobs.Goals as goal
 
@@ -7,3 +10,14 @@ scope-returns g t c =
     let there = rw c.requires.3 at promised in
     halves (g.W.Work.done c.captures.work.now) (g.W.Work.shut c.captures.work.now) c.captures.front.items c.captures.back.items
     c.run_jobs-here.result c.join.result c.both.result c.run_jobs-here.ensures there c.both.ensures
+
+pub returns-in_err-back : goal.returns-in_err-back
+returns-in_err-back g t c =
+    let from = err_from_is_err_and c.from_residual.result c.from_residual.ensures.1 in
+    rw (from.1, from.2) tt
+
+pub returns : goal.returns
+returns g t c =
+    let whole : c.split_off.new.self.items ++ c.in_ok-back.back.items ≡ c.args.jobs.items =
+    rw (c.in_ok-back.ensures.items, c.in_ok-back.ensures.tail) (take-append-drop _ _) in
+    rw whole at c.scoped.ensures.1

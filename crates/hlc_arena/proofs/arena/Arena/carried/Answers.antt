@@ -5,8 +5,14 @@ use Rattle.hlc_arena.specs.declared.stored_kind.StoredKind.{StoredKind}
 use Rattle.hlc_arena.specs.declared.stored_kind.StoredKind.TheVariants.{Deliver, Erase, Send, Sync, Write}
 use Rattle.hlc_arena.specs.Known.{carried_by}
 use Rattle.hlc_arena.specs.Stored.{kind_in, places_in}
-use Rattle.hlc_arena.proofs.Keeping.{kind_shown, list_shown}
+use Rattle.hlc_arena.proofs.Keeping.{kind_exists, kind_shown, list_exists, list_shown}
 use Rattle.hlc_arena.proofs.arena.Arena.carried.Goals as goal
+
+pub at-requires : goal.at-requires
+at-requires c = kind_exists c.self.invariant c.self.view_is c.args.id.0 c.requires
+
+pub at-requires-in-Sync : goal.at-requires-in-Sync
+at-requires-in-Sync c = list_exists c.self.invariant c.self.view_is c.args.id.0 c.requires c.at.ensures c.in-Sync.is
 
 pub returns-in-Send : goal.returns-in-Send
 returns-in-Send c =

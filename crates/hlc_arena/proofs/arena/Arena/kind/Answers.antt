@@ -1,5 +1,20 @@
-use Rattle.hlc_arena.proofs.Keeping.{kind_shown, list_shown}
+use Rattle.hlc_arena.proofs.Keeping.{kind_exists, kind_shown, list_exists, list_shown, stored_shown}
 use Rattle.hlc_arena.proofs.arena.Arena.kind.Goals as goal
+
+pub at-requires : goal.at-requires
+at-requires c = kind_exists c.self.invariant c.self.view_is c.args.id.0 c.requires
+
+pub key-requires : goal.key-requires
+key-requires c = stored_shown c.self.invariant c.self.view_is c.args.id.0 c.requires c.at.ensures c.in-Write.is
+
+pub value-requires : goal.value-requires
+value-requires c = stored_shown c.self.invariant c.self.view_is c.args.id.0 c.requires c.at.ensures c.in-Write.is
+
+pub key-requires-in-Erase : goal.key-requires-in-Erase
+key-requires-in-Erase c = stored_shown c.self.invariant c.self.view_is c.args.id.0 c.requires c.at.ensures c.in-Erase.is
+
+pub at-requires-in-Sync : goal.at-requires-in-Sync
+at-requires-in-Sync c = list_exists c.self.invariant c.self.view_is c.args.id.0 c.requires c.at.ensures c.in-Sync.is
 
 pub returns-in-Write : goal.returns-in-Write
 returns-in-Write c =

@@ -5,13 +5,18 @@ use Rattle.hlc_core.specs.Effect.{effect_event}
 use Rattle.hlc_core.specs.Lawful.{IsLawfulNext}
 use Rattle.hlc_request.specs.Request.{request_of_ref}
 use Rattle.hlc_core.specs.Step.{PassesCommon, event_with}
-use Rattle.hlc_core.proofs.Answering.{answered_by_effect, refused_by_own}
+use Rattle.hlc_core.proofs.Answering.{answered_by_effect, refused_by_common, refused_by_drift_of, refused_by_own}
 use Rattle.hlc_core.proofs.Counters.{answer_counts}
 use Rattle.hlc_core.proofs.Drifts.{within_if_not_exceeded}
 use Rattle.hlc_core.proofs.Passed.{common_passed}
 use Rattle.hlc_core.proofs.Steps.{lawful_next}
 use Rattle.hlc_core.proofs.cluster.Cluster.ask.Goals.{In_ok-effect}
 use Rattle.hlc_core.proofs.cluster.Cluster.ask.Goals as goal
+
+pub returns-in-Some-clause-answer : goal.returns-in-Some-clause-answer
+returns-in-Some-clause-answer c =
+    refused_by_common c.args.self.now c.args.node.0 c.args.reading (request_of_ref c.args.action) c.in-Some.refusal
+    (sym c.common_refusal.ensures.value ∙ c.in-Some.is)
 
 pub returns-in_err-effect-clause-answer : goal.returns-in_err-effect-clause-answer
 returns-in_err-effect-clause-answer c =
@@ -41,6 +46,14 @@ effect_next c =
 pub is_too_far-requires-clause-earlier : goal.is_too_far-requires-clause-earlier
 is_too_far-requires-clause-earlier c =
     (effect_next (goal.at.is_too_far-requires-clause-earlier c).In_ok-effect).follows.names.earlier.delivered
+
+pub returns-then-is_too_far-clause-answer : goal.returns-then-is_too_far-clause-answer
+returns-then-is_too_far-clause-answer c =
+    let passes = passes_common (goal.at.returns-then-is_too_far-clause-answer c).In_ok-effect in
+    refused_by_drift_of c.in_ok-effect.ensures c.args.reading passes (sym c.is_too_far.ensures ∙ c.if-is_too_far.true)
+
+pub carry_out-requires-clause-ends : goal.carry_out-requires-clause-ends
+carry_out-requires-clause-ends c = c.in_ok-effect.ensures.ends
 
 pub carry_out-requires-clause-next : goal.carry_out-requires-clause-next
 carry_out-requires-clause-next c =

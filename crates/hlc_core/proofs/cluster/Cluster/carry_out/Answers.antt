@@ -1,9 +1,9 @@
-use Rattle.std.proofs.Common.{◌≡◌, ◌∙◌, ◌<◌, ℕ, List, ap, subst, sym}
-use Rattle.std.specs.Prelude.{slice_set}
+use Rattle.std.proofs.Common.{◌≡◌, ◌∙◌, ◌<◌, ℕ, List, Option, ap, arith, subst, sym}
+use Rattle.std.specs.Prelude.{slice_index_or, slice_set}
 use Rattle.std.proofs.lemmas.List.{set-get_or}
 use Rattle.std.proofs.lemmas.Result.{err_from_is_err_and}
 use Rattle.hlc_arena.specs.Arena.{history_of}
-use Rattle.hlc_arena.specs.History.{Event, EventKind}
+use Rattle.hlc_arena.specs.History.{Event, EventKind, History}
 use Rattle.hlc_arena.specs.Kinds.{next_kind_of}
 use Rattle.hlc_core.specs.Effect.{MayBeAdded, effect_event, effect_kind, effect_live}
 use Rattle.hlc_core.specs.Fields.{AreWhole}
@@ -13,6 +13,7 @@ use Rattle.hlc_core.specs.declared.accepted.Accepted.{Accepted}
 use Rattle.hlc_core.specs.declared.effect.Effect.{Effect}
 use Rattle.hlc_core.specs.declared.effect.Effect.TheVariants.{Pull}
 use Rattle.hlc_stamp.specs.declared.id.EventId.{EventId}
+use Rattle.hlc_pool.specs.Messages.{LiveMessages}
 use Rattle.hlc_table.specs.Rows.{Row}
 use Rattle.hlc_core.proofs.Effects.{live_unless_pulled}
 use Rattle.hlc_core.proofs.TableEntries.{held_writes}
@@ -81,14 +82,23 @@ returns-in-Pull c =
       sound = c.lose.ensures.sound;
     }
 
+-- what is whole stays so if a table is as it was
+whole_same : {limit : Option ℕ} {h : History} {live : LiveMessages} {tables : List (List Row)} (node : ℕ) {table new : List Row} →
+    AreWhole limit h live tables → table ≡ slice_index_or tables node table → new ≡ table → AreWhole limit h live (slice_set tables node new)
+whole_same {limit} {h} {live} {tables} node {table} whole here same =
+    let is = ap (slice_set tables node) (same ∙ here) ∙ set-get_or tables node table in
+    subst (AreWhole limit h live) (sym is) whole
+
 pub invariant_of-self : goal.invariant_of-self
-invariant_of-self c =
-    let tables = c.self.inside.tables.items in
-    let same : slice_set tables c.args.node.0 c.kind.new.table ≡ tables =
-    ap (slice_set tables c.args.node.0) (c.in_err-kind.ensures.unchanged ∙ c.index_mut.ensures.value)
-    ∙ set-get_or tables c.args.node.0 c.index_mut.result.now in
-    subst (λ (ts : List (List Row)). AreWhole c.self.inside.limit (history_of c.self.inside.history) c.self.inside.messages ts) (sym same)
-    c.self.invariant
+invariant_of-self c = whole_same c.args.node.0 c.self.invariant c.index_mut.ensures.value c.in_err-kind.ensures.unchanged
+
+pub invariant_of-self-2 : goal.invariant_of-self-2
+invariant_of-self-2 c = whole_same c.args.node.0 c.self.invariant c.index_mut.ensures.value c.in_ok-kind.ensures.unchanged
+
+pub index_mut-requires : goal.index_mut-requires
+index_mut-requires c =
+    let nodes = ap (λ (s : State). s.history.nodes) c.self.view_is in
+    omega (arith, nodes, c.requires.next.lawful.follows.node, c.self.invariant.held.one_each, c.self.inside.tables.ok.0)
 
 pub returns-in_err-kind-clause-answer : goal.returns-in_err-kind-clause-answer
 returns-in_err-kind-clause-answer c =

@@ -1,19 +1,24 @@
-use Rattle.std.proofs.Common.{◌≡◌, List, ◌∷◌, [], ◌++◌, length, arith, subst, sym, ap, ◌∙◌}
-use Rattle.std.proofs.lemmas.List.{length_push}
-use Rattle.hlc_pages.specs.Pages.{ArePages, Page}
-use Rattle.hlc_pages.proofs.Paging.{pages-more, room_for}
+use Rattle.std.proofs.Common.{◌≡◌, ◌⊎◌, arith, ap, ◌∙◌}
+use Rattle.std.proofs.lemmas.Result.{on_err_weaker, on_ok_weaker}
+use Rattle.hlc_pages.specs.Growth.{HasNewPage}
+use Rattle.hlc_pages.specs.Pages.{PagedItems}
+use Rattle.hlc_pages.proofs.PageGrowth.{grown_or_same, no_room}
+use Rattle.hlc_pages.proofs.Paging.{items-grown, pages-grown, room_in_new_page}
 use Rattle.hlc_pages.proofs.pages.Pages.reserve.Goals as goal
 
-pages_are : (g : _) (c : goal.After-push_reserved g) → c.push_reserved.new.self.items ≡ c.self.inside.pages.items ++ c.in_ok-page.page ∷ []
-pages_are g c = c.push_reserved.ensures.items ∙ ap (λ (pages : List (Page _)). pages ++ c.in_ok-page.page ∷ []) c.reserve.ensures.items
+grown : (g : _) (c : goal.After-add_page g) → HasNewPage 1024 c.self.inside.pages.items c.add_page.new.pages.items
+    ⊎ (c.add_page.new.pages.items ≡ c.self.inside.pages.items)
+grown g c = grown_or_same c.add_page.result c.add_page.ensures.added c.add_page.ensures.unchanged
 
-pub invariant_of-self-2 : goal.invariant_of-self-2
-invariant_of-self-2 g c =
-    subst (λ (pages : List (Page _)). ArePages pages c.self.inside.len) (sym (pages_are g c))
-    (pages-more c.in_ok-page.page c.in_ok-page.ensures.items c.in_ok-page.ensures.capacity
-    c.self.inside.pages.items c.self.inside.len c.self.invariant)
+pub invariant_of-self : goal.invariant_of-self
+invariant_of-self g c = pages-grown (grown g c) c.self.inside.len c.self.invariant
 
-pub returns-clause-room : goal.returns-clause-room
-returns-clause-room g c =
-    let size = ap length (pages_are g c) ∙ length_push c.self.inside.pages.items c.in_ok-page.page in
-    omega (arith, room_for c.self.inside.pages.items c.self.inside.len c.self.invariant)
+pub returns : goal.returns
+returns g c =
+    let full = no_room c.has_room.result c.args.self.now.room c.has_room.ensures c.if-has_room.false in
+    record {
+      room = on_ok_weaker c.add_page.result (room_in_new_page c.self.inside.len c.self.invariant) c.add_page.ensures.added;
+      full = on_err_weaker c.add_page.result (λ _. full) c.add_page.ensures.unchanged;
+      items = items-grown (grown g c) ∙ ap (λ (a : PagedItems _). a.items) c.self.view_is;
+      keeps_room = omega (arith, full);
+    }

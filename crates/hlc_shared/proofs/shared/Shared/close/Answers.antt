@@ -70,13 +70,13 @@ returns-clause-agree g c = λ node below.
     ap (λ (logs : List (Vec Logged Global)). log_at logs node) c.deref.ensures.value ∙ c.in_ok-history.ensures.logs node in
     subst (Agrees c.in_ok-history.history.events node) log (c.in_ok-compare_logs.ensures.agree node (subst (λ (n : ℕ). node < n) (sym nodes) below))
 
-pub returns-in_err-history-clause-refused : goal.returns-in_err-history-clause-refused
-returns-in_err-history-clause-refused g c =
+pub returns-in_err-history : goal.returns-in_err-history
+returns-in_err-history g c =
     let from = err_from_is_err_and c.from_residual.result c.from_residual.ensures.1 in
-    rw (from.1, from.2) tt
+    rw (from.1, from.2) record { history = tt; one_each = tt; logs = tt; agree = tt; refused = tt }
 
-pub returns-in_err-compare_logs-clause-refused : goal.returns-in_err-compare_logs-clause-refused
-returns-in_err-compare_logs-clause-refused g c =
+pub returns-in_err-compare_logs : goal.returns-in_err-compare_logs
+returns-in_err-compare_logs g c =
     let h : History = (history_of c.in_ok-history.history) in
     let gathered = c.gather.ensures in
     let fault = c.in_err-compare_logs.field-0.0 in
@@ -91,4 +91,4 @@ returns-in_err-compare_logs-clause-refused g c =
     let closes : IsFaultOfClose g.L.Group.nodes g.L.Group.capacity g.L.Group.limit c.args.seats.items fault =
     fault_of_seats g.L.Group.nodes g.L.Group.capacity g.L.Group.limit c.args.seats.items h (log_at c.deref.result.now) fault kept same compared in
     let from = err_from_is_err_and c.from_residual-in_err-compare_logs.result c.from_residual-in_err-compare_logs.ensures.1 in
-    rw (from.1, from.2) closes
+    rw (from.1, from.2) record { history = tt; one_each = tt; logs = tt; agree = tt; refused = closes }

@@ -1,7 +1,10 @@
+use Rattle.std.proofs.Common.{rules}
 use Rattle.hlc_svg.proofs.shapes.CourseDisplay.fmt.Goals as goal
+use Rattle.hlc_svg.proofs.shapes.CourseDisplay.fmt.Goals.{in-Lower, in-Upper}
 
-pub returns-in-Upper-clause-writes : goal.returns-in-Upper-clause-writes
-returns-in-Upper-clause-writes g c = rw c.in-Upper.is c.write.ensures.writes
-
-pub returns-in-Lower-clause-writes : goal.returns-in-Lower-clause-writes
-returns-in-Lower-clause-writes g c = rw c.in-Lower.is c.write-in-Lower.ensures.writes
+pub returns-clause-writes : goal.returns-clause-writes
+returns-clause-writes g c =
+    elim c.match-border.branch [
+      | in-Upper w ↦ rw w.in-Upper.is (search rules)
+      | in-Lower w ↦ rw w.in-Lower.is (search rules)
+    ]

@@ -1,4 +1,4 @@
-use Rattle.std.proofs.Common.{◌≡◌, ◌∙◌, ◌≤◌, ℕ, [], length, ap, arith, rules, subst, sym}
+use Rattle.std.proofs.Common.{◌≡◌, ◌∙◌, ◌≤◌, ℕ, [], length, ap, arith, refl, rules, subst, sym}
 use Rattle.std.proofs.lemmas.List.{length-map}
 use Rattle.std.proofs.lemmas.Bool.{MatchBool-at_false, MatchBool-at_true, false≢true}
 use Rattle.std.specs.Prelude.{◌↔◌, IsTrue, is_some}
@@ -8,7 +8,7 @@ use Rattle.hlc_table.specs.NodeWalk.{StandsAt, walk_of}
 use Rattle.hlc_held.specs.Walks.{GoesOn, Strays, places_passed}
 use Rattle.hlc_held.proofs.Walks.{passed_from}
 use Rattle.hlc_held.proofs.LogWalks.{entry_there, followed_more, followed_to_end, not_other, strayed}
-use Rattle.hlc_held.proofs.agreement.agrees.Goals as goal
+use Rattle.hlc_held.proofs.agreement.follow_all.Goals as goal
 
 pub returns-then-not-branch : goal.returns-then-not-branch
 returns-then-not-branch c =
@@ -18,7 +18,7 @@ returns-then-not-branch c =
     let item = c.entry-item.result in
     let strays = subst (λ (n : ℕ). Strays events n (log_entry_of item) walk.next) c.loop-entry.invariant.node (MatchBool-at_false _ _ c.if-not-branch.true c.in_ok-follow.ensures.goes_on) in (
       λ t. absurd (false≢true t),
-      λ agrees. absurd (strayed events c.args.node.0 (log_of c.args.log.now) i (log_entry_of item) walk.next
+      λ agrees. absurd (strayed events c.args.walk.now.node (log_of c.args.log.now) i (log_entry_of item) walk.next
           (entry_there c.args.log.now i item c.loop-entry-test.true c.entry-item.is) c.loop-entry.invariant.followed strays agrees),
     )
 
@@ -36,7 +36,7 @@ loop-entry-preserved c =
     record {
       node = c.in_ok-follow.ensures.node ∙ same_node;
       stands = c.in_ok-follow.ensures.stands;
-      followed = followed_more events c.args.node.0 (log_of c.args.log.now) i (log_entry_of item) walk.next new.next
+      followed = followed_more events c.args.walk.now.node (log_of c.args.log.now) i (log_entry_of item) walk.next new.next
           (entry_there c.args.log.now i item c.loop-entry-test.true c.entry-item.is) c.loop-entry.invariant.followed goes;
     }
 
@@ -48,19 +48,19 @@ returns c =
     subst (λ (n : ℕ). StandsAt c.args.history.now.events (walk_of n c.loop-entry.walk.known c.loop-entry.walk.next))
     c.loop-entry.invariant.node c.loop-entry.invariant.stands in
     let ends =
-    followed_to_end c.args.history.now.events c.args.node.0 (log_of c.args.log.now) c.loop-entry.entry-index c.loop-entry.walk.known
+    followed_to_end c.args.history.now.events c.args.walk.now.node (log_of c.args.log.now) c.loop-entry.entry-index c.loop-entry.walk.known
     c.loop-entry.walk.next past stands c.loop-entry.invariant.followed in
     let tells = not_other (is_some c.loop-entry.walk.next) c.is_none.result (ap is_some (sym c.next_event.ensures) ∙ c.is_none.ensures) in
-    let at_end : IsTrue c.is_none.result ↔ Agrees c.args.history.now.events c.args.node.0 (log_of c.args.log.now) =
+    let at_end : IsTrue c.is_none.result ↔ Agrees c.args.history.now.events c.args.walk.now.node (log_of c.args.log.now) =
     (λ none. ends.0 (tells ∙ none), λ agrees. sym tells ∙ ends.1 agrees) in
     search (rules, at_end)
 
 pub loop-entry-init : goal.loop-entry-init
 loop-entry-init c =
-    let none : places_passed c.args.history.now.events c.args.node.0 c.new-walk.result.next ≡ [] =
-    passed_from c.args.history.now.events c.args.node.0 0 c.new-walk.result.next c.new-walk.ensures.first (omega arith) in
+    let none : places_passed c.args.history.now.events c.args.walk.now.node c.args.walk.now.next ≡ [] =
+    passed_from c.args.history.now.events c.args.walk.now.node 0 c.args.walk.now.next c.requires.first (omega arith) in
     record {
-      node = c.new-walk.ensures.node;
-      stands = c.new-walk.ensures.stands;
+      node = refl;
+      stands = c.requires.stands;
       followed = (sym none, λ k lt. absurd (omega arith));
     }

@@ -1,20 +1,19 @@
 use Rattle.std.proofs.Common.{◌∙◌, ◌<◌, ◌++◌, List, None, ap, append-nil, arith, length, sym}
 use Rattle.std.proofs.Math.ListN.{drop_of_length-le}
-use Rattle.std.proofs.lemmas.Result.{IfOk-from_err}
 use Rattle.hlc_stamp.specs.Ids.{places_of}
 use Rattle.hlc_stamp.specs.declared.id.EventId.{EventId}
 use Rattle.hlc_figures.specs.ChainRows.{rows_from}
 use Rattle.hlc_figures.specs.declared.chain_rows.ChainRow.{ChainRow}
 use Rattle.hlc_figures.proofs.Chains.{next_rises, next_rows, next_stands}
-use Rattle.hlc_figures.proofs.chain_rows.chain_rows.Goals as goal
+use Rattle.hlc_figures.proofs.chain_rows.put_rows.Goals as goal
 
 abbrev no_event : EventId
 no_event = record { 0 = 0 }
 
 pub loop-event-init : goal.loop-event-init
 loop-event-init c = record {
-  rises = c.requires;
-  rows = ap (λ (rows : List ChainRow). rows ++ rows_from None (places_of c.args.chain.now)) c.new-rows.ensures.items;
+  rises = c.requires.rising;
+  rows = ap (λ (rows : List ChainRow). rows ++ rows_from None (places_of c.args.chain.now)) c.requires.none;
 }
 
 pub put_gap-requires : goal.put_gap-requires
@@ -41,9 +40,3 @@ returns c =
     let rows = c.loop-event.rows.items in
     let none_left = drop_of_length-le c.args.chain.now c.loop-event-test.false in
     sym (append-nil rows) ∙ ap (λ (left : List EventId). rows ++ rows_from before (places_of left)) (sym none_left) ∙ c.loop-event.invariant.rows
-
-pub returns-in_err-put_gap : goal.returns-in_err-put_gap
-returns-in_err-put_gap c = IfOk-from_err c.from_residual.result _ c.from_residual.ensures.0
-
-pub returns-in_err-push : goal.returns-in_err-push
-returns-in_err-push c = IfOk-from_err c.from_residual-in_err-push.result _ c.from_residual-in_err-push.ensures.0
