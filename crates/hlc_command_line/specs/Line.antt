@@ -254,15 +254,18 @@ pub record AreLogRules (rows : List Row) (given : LogRules) : Type 0 where
   pub form_is : IsFormOf rows given.form
   pub tolerance_is : IsNumberOr rows tolerance 0 given.tolerance
   pub receives_are : IsReceivesOf rows given.receives
+  pub unsent_is : IsWordOf rows unsent (codes "local") given.unsent_local
 
--- no rules say how records are read: stamps have two forms, or `--receives` has another word than `tick`, `merge` and `merge-clock`
+-- no rules say how records are read: stamps have two forms, or `--receives` has another word than `tick`, `merge` and `merge-clock`, or `--unsent`
+-- another one than `local`
 abbrev pub IsRulesMistake : List Row → LineFault → Type 0
-IsRulesMistake rows f = ((f ≡ fault.Forms) × AreTwoForms rows) ⊎ ((f ≡ fault.Receives) × IsNoReceives rows)
+IsRulesMistake rows f =
+    ((f ≡ fault.Forms) × AreTwoForms rows)
+    ⊎ (((f ≡ fault.Receives) × IsNoReceives rows) ⊎ ((f ≡ fault.Unsent) × IsOtherWord rows unsent (codes "local")))
 
 -- the options of `audit` are what was given
 pub record AreAuditOptions (rows : List Row) (given : AuditOptions) : Type 0 where
   pub records_are : AreLogRules rows given.records
-  pub unsent_is : IsWordOf rows unsent (codes "local") given.unsent_local
   pub strict_is : IsFlagOf rows strict given.strict
   pub limit_is : IsOptionalNumber rows limit given.limit
   pub report_is : IsFlagOf rows report given.report
@@ -283,7 +286,6 @@ IsLogPart rows (Chain line) = AreLogRows rows (Between None None) × IsNumberOf 
 -- the options of `draw-log` are what was given
 pub record AreDrawLogOptions (rows : List Row) (given : DrawLogOptions) : Type 0 where
   pub records_are : AreLogRules rows given.records
-  pub unsent_is : IsWordOf rows unsent (codes "local") given.unsent_local
   pub part_is : IsLogPart rows given.part
 
 -- an order says what clap found: the subcommand of this name with these options
@@ -302,8 +304,7 @@ IsOrderOf name rows (order.Threads n k s l) = (name ≡ codes "threads") × AreS
 abbrev pub IsOrderFound : Option (Text × List Row) → Order → Type 0
 IsOrderFound found o = (name : Text) × (rows : List Row) × (found ≡ Some (name, rows)) × IsOrderOf name rows o
 
--- what of the options of `audit` no order says: no rules say how its records are read, `--unsent` has another word than `local`, or an
--- `--ask` asks nothing
+-- what of the options of `audit` no order says: no rules say how its records are read, or an `--ask` asks nothing
 abbrev pub IsAuditMistake : List Row → LineFault → Type 0
 IsAuditMistake rows fault.Forms = AreTwoForms rows
 IsAuditMistake rows fault.Receives = IsNoReceives rows
@@ -326,8 +327,7 @@ IsPartMistake rows mistake.ChainOfNone = IsFlagOf rows only_chain true × IsLeft
 IsPartMistake rows mistake.ChainAndRows =
     IsFlagOf rows only_chain true × (IsGiven rows around_line ⊎ (IsGiven rows first_line ⊎ IsGiven rows last_line))
 
--- what of how a log is to be drawn no order says: no rules say how its records are read, `--unsent` has another word than `local`, or no
--- part is drawn so
+-- what of how a log is to be drawn no order says: no rules say how its records are read, or no part is drawn so
 abbrev pub IsLogMistake : List Row → LineFault → Type 0
 IsLogMistake rows fault.Forms = AreTwoForms rows
 IsLogMistake rows fault.Receives = IsNoReceives rows

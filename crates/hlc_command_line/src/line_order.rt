@@ -6,8 +6,6 @@ use hlc_stamp::{EventId, Settings};
 pub struct AuditOptions {
     /// How its records are read.
     pub records: LogRules,
-    /// Whether a receive of a message that nobody sends is taken as a local event, unless it tells what that carried.
-    pub unsent_local: bool,
     /// Whether the status is to tell if a stamp is behind or not above another one, or a message carried another stamp than its send.
     pub strict: bool,
     /// How far a stamp may be ahead of what the clock reads, if there is a limit.
@@ -60,8 +58,6 @@ pub enum LogPart {
 pub struct DrawLogOptions {
     /// How its records are read.
     pub records: LogRules,
-    /// Whether a receive of a message that nobody sends is taken as a local event, unless it tells what that carried.
-    pub unsent_local: bool,
     /// What of the log is drawn.
     pub part: LogPart,
 }

@@ -78,6 +78,18 @@ fn receives(options: &ArgMatches<'_>) -> Result<Receives, LineFault>
     }
 }
 
+// Whether `--unsent` is given with its word.
+fn unsent_local(options: &ArgMatches<'_>) -> Result<bool, LineFault>
+    ensures found { IfOk result (IsWordOf (rows_of (found_of options.now)) unsent (codes "local")) }
+    ensures other { IfErr result (λ fault. (fault ≡ LineFault.Unsent) × IsOtherWord (rows_of (found_of options.now)) unsent (codes "local")) }
+{
+    match options.get_str("unsent") {
+        None => Ok(false),
+        Some("local") => Ok(true),
+        Some(_) => Err(LineFault::Unsent),
+    }
+}
+
 // How the records of a log are read, of a subcommand that has the options.
 pub(crate) fn log_rules(options: &ArgMatches<'_>) -> Result<LogRules, LineFault>
     requires bits { HasNumber (rows_of (found_of options.now)) packed }
@@ -90,19 +102,8 @@ pub(crate) fn log_rules(options: &ArgMatches<'_>) -> Result<LogRules, LineFault>
         form: stamp_form(options)?,
         tolerance: tolerance(options),
         receives: receives(options)?,
+        unsent_local: unsent_local(options)?,
     })
-}
-
-// Whether `--unsent` is given with its word.
-pub(crate) fn unsent_local(options: &ArgMatches<'_>) -> Result<bool, LineFault>
-    ensures found { IfOk result (IsWordOf (rows_of (found_of options.now)) unsent (codes "local")) }
-    ensures other { IfErr result (λ fault. (fault ≡ LineFault.Unsent) × IsOtherWord (rows_of (found_of options.now)) unsent (codes "local")) }
-{
-    match options.get_str("unsent") {
-        None => Ok(false),
-        Some("local") => Ok(true),
-        Some(_) => Err(LineFault::Unsent),
-    }
 }
 
 // The options of `audit`.
@@ -113,7 +114,6 @@ pub(crate) fn audit_options(options: &ArgMatches<'_>) -> Result<AuditOptions, Li
 {
     Ok(AuditOptions {
         records: log_rules(options)?,
-        unsent_local: unsent_local(options)?,
         strict: flag(options, "strict"),
         limit: drift_limit(options),
         report: flag(options, "report"),

@@ -7,7 +7,7 @@ ghost use Rattle.hlc_command_line.specs.Line.{AreDrawLogOptions, AreLogRows, IsL
 
 use crate::line_fault::{LineFault, PartMistake};
 use crate::line_order::{DrawLogOptions, LogPart, LogRows, USUAL_ROWS};
-use crate::log_options::{log_rules, unsent_local};
+use crate::log_options::log_rules;
 use crate::option_value::{flag, positive};
 use clap::ArgMatches;
 
@@ -65,7 +65,6 @@ pub(crate) fn draw_log_options(options: &ArgMatches<'_>) -> Result<DrawLogOption
 {
     Ok(DrawLogOptions {
         records: log_rules(options)?,
-        unsent_local: unsent_local(options)?,
         part: log_part(options)?,
     })
 }

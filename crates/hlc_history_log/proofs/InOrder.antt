@@ -2,7 +2,7 @@
 use Rattle.std.proofs.Common.{◌≡◌, ◌∙◌, Bool, false, true, ℕ, ◌<◌, ◌≤◌, inl, inr, List, Option, Some, None, arith, length, refl, sym, ap, subst, take}
 use Rattle.std.specs.Prelude.{All, Contains}
 use Rattle.std.proofs.lemmas.List.{ext_get_or, get_or_default, length-map}
-use Rattle.hlc_stamp.specs.declared.limits.TheConstants.{MAX_CAPACITY}
+use Rattle.hlc_stamp.specs.declared.limits.TheConstants.{MAX_CAPACITY, MAX_NODES}
 use Rattle.hlc_stamp.specs.Order.{Pair, zero_pair}
 use Rattle.hlc_causality.specs.declared.receives.Receives.TheVariants.{Tick}
 use Rattle.hlc_causality.specs.declared.receives.Receives.{Receives}
@@ -33,7 +33,7 @@ use Rattle.hlc_log.specs.Reordering.{IsReordering, KeepsEvents}
 use Rattle.hlc_log.proofs.CausalOrders.{contained_before, place_of_contained}
 use Rattle.hlc_log.proofs.OrderSkeletons.{earlier_from_order, earlier_in_order, index_of_place, length-skeleton_in, own_in, place_exists, place_of_index, reading_in, send_from_order, send_in_order}
 use Rattle.hlc_log.proofs.Reorderings.{reordering_keeps_least}
-use Rattle.hlc_log_report.specs.InOrder.{IsCarriedRightly, IsGivenStamps, IsInOrder, LogInOrder, carried_of, claimed_in, claimed_of, clocks_of, seen_of, skeleton_of, stamp_told}
+use Rattle.hlc_log_report.specs.InOrder.{AreOfNodes, IsCarriedRightly, IsGivenStamps, IsInOrder, LogInOrder, carried_of, claimed_in, claimed_of, clocks_of, seen_of, skeleton_of, stamp_told}
 use Rattle.hlc_log_report.proofs.CleanLogs.{claims_are_least, none_is_named, seen_is_claimed}
 use Rattle.hlc_log_report.proofs.EventsInOrder.{length-clocks_of}
 use Rattle.hlc_log_report.proofs.Ordering.{claimed_at}
@@ -193,19 +193,21 @@ none_given events log is causal k lt untold =
     absurd (let bad : ◌≡◌ {A = Bool} true false = sym (stamps_told events log is causal k lt) ∙ untold in cc bad)
 
 -- in its own order
-pub log_in_own_order : (events : List StampedEvent) (log : List LogEvent) → IsHistoryLog events log → length events ≤ MAX_CAPACITY
-    → ((e : ℕ) → e < length events → HasReading events e)
+pub log_in_own_order : (events : List StampedEvent) (log : List LogEvent) (nodes : ℕ) → nodes ≤ MAX_NODES → AreOfNodes nodes log → IsHistoryLog events log
+    → length events ≤ MAX_CAPACITY → ((e : ℕ) → e < length events → HasReading events e)
     → (in_order : LogInOrder) × (in_order.receives ≡ Tick) × (in_order.events ≡ log) × IsInOrder in_order
-log_in_own_order events log is few readings =
+log_in_own_order events log nodes few_nodes of_nodes is few readings =
     let order = places_below (length log) in
     let causal = own_order_is_causal events log is in
     let least = least_list_exists (skeleton_in log order) in
-    let whole : LogInOrder = record { receives = Tick; events = log; order = order; least = least.0 } in (
+    let whole : LogInOrder = record { nodes = nodes; receives = Tick; events = log; order = order; least = least.0 } in (
       whole,
       refl,
       refl,
       record {
         few = let size = is.size in omega arith;
+        few_nodes = few_nodes;
+        of_nodes = of_nodes;
         in_range = log_in_range events log is readings;
         messages = is.sound;
         causal = causal;

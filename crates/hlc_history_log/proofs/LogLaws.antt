@@ -23,6 +23,7 @@ use Rattle.hlc_log_text.specs.ReadLog.{MakeItems, SayItems}
 use Rattle.hlc_log_text.specs.declared.bad_log.BadLog.{BadLog}
 use Rattle.hlc_log_text.specs.declared.log_text.LogText.{LogText}
 use Rattle.hlc_log_text.proofs.PlainLogs.{placed_say, said_once}
+use Rattle.hlc_log_text.proofs.NamedNodes.{read_names}
 use Rattle.hlc_history_log.specs.Label.{label_of}
 use Rattle.hlc_history_log.specs.Laws.{IsClocked, IsLogRead, LogsAuditClean, LogsHaveAnOrder, LogsTellEventsAlone, LogsTellNothingCarried, LogsTellReadings, LogsTellStamps, RowsMakeEvents, TellHistory, TellsOf}
 use Rattle.hlc_history_log.specs.LogRows.{log_row, log_rows, message_of}
@@ -188,7 +189,8 @@ pub logs_have_an_order : LogsHaveAnOrder
 logs_have_an_order h text clocked read =
     let few = clocked.well_formed.within_capacity in
     let small = clocked.well_formed.small_capacity in
-    log_in_own_order h.events text.log.events (log_is_read h clocked text read) (omega arith) clocked.readings
+    log_in_own_order h.events text.log.events (length text.nodes) read.held.log.few_nodes (read_names (events_in read.items) text read.held.log)
+    (log_is_read h clocked text read) (omega arith) clocked.readings
 
 pub logs_tell_events_alone : LogsTellEventsAlone
 logs_tell_events_alone h text clocked read =

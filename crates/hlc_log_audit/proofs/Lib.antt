@@ -4,11 +4,9 @@ pub mod CauseRows
 pub mod CleanReports
 pub mod DriftEvents
 pub mod EventsInOrder
-pub mod FewMessages
 pub mod Found
 pub mod LeastStamps
 pub mod LineFacts
-pub mod LinesKept
 pub mod OverLimits
 pub mod OverRows
 pub mod ReorderedAnswers

@@ -9,7 +9,8 @@ use Rattle.hlc_log.specs.declared.log_event.LogEvent.{LogEvent}
 use Rattle.hlc_log.proofs.OrderSkeletons.{place_exists, position_is, same_position}
 use Rattle.hlc_log_report.specs.InOrder.{IsInOrder, LogInOrder}
 use Rattle.hlc_log_report.proofs.Ordering.{order_len}
-use Rattle.hlc_log_audit.specs.Lines.{HasNumbers, IsOnLine, LinesRise, position_on}
+use Rattle.hlc_open_log.specs.Opened.{LinesRise}
+use Rattle.hlc_log_audit.specs.Lines.{HasNumbers, IsOnLine, position_on}
 
 module _ (events : List LogEvent) (rise : LinesRise events) where
   pub line_rises : (d e : ℕ) → d < e → e < length events → (event_at events d).line < (event_at events e).line

@@ -11,7 +11,8 @@ use Rattle.hlc_log_text.specs.LogText.{name_of}
 use Rattle.hlc_log_text.specs.Question.{Claimed}
 use Rattle.hlc_log_audit.specs.Answers.{claimed_fields, if_event}
 use Rattle.hlc_log_audit.specs.ClaimedWay.{claimed_way}
-use Rattle.hlc_log_audit.specs.Lines.{LinesRise, position_on}
+use Rattle.hlc_open_log.specs.Opened.{LinesRise}
+use Rattle.hlc_log_audit.specs.Lines.{position_on}
 use Rattle.hlc_log_audit.specs.OverLimit.{AreOvers, NamesOverBefore}
 use Rattle.hlc_log_audit.specs.Report.{AreOverRows, NamesPlaces, origin_field, over_fields, over_row}
 use Rattle.hlc_log_audit.specs.declared.over.Over.{Over}

@@ -56,7 +56,8 @@ use Rattle.hlc_log_text.specs.Question.{Asked, Check, Claimed, Drift as DriftAsk
 use Rattle.hlc_log_audit.specs.Answers.{AreRisingLinesOf, IfEvent, IsAnswer, TellsEvent, TellsInfluenced, chain_fields, claimed_fields, drift_fields, drift_in, drift_row, event_fields_at, explains, if_event, label_fields, reading_field, relation_fields, way_fields}
 use Rattle.hlc_log_audit.specs.ClaimedWay.{claimed_way}
 use Rattle.hlc_log_audit.specs.Laws.{AnswersAgree}
-use Rattle.hlc_log_audit.specs.Lines.{HasNumbers, IsOnLine, LinesRise, position_on, position_or_end}
+use Rattle.hlc_open_log.specs.Opened.{LinesRise}
+use Rattle.hlc_log_audit.specs.Lines.{HasNumbers, IsOnLine, position_on, position_or_end}
 use Rattle.hlc_log_audit.specs.Moved.{moved_drift}
 use Rattle.hlc_log_audit.specs.Words.{found_word}
 use Rattle.hlc_log_audit.proofs.DriftEvents.{drift_event_exists, drift_origin_exists}

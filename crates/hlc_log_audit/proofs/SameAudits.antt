@@ -2,7 +2,7 @@
 use Rattle.std.proofs.Common.{◌≡◌, ◌∙◌, ◌⊎◌, Bool, true, false, ℕ, ◌≤◌, inl, inr, List, [], ◌∷◌, ◌++◌, length, Option, Some, append-nil, arith, refl, subst, sym, ap}
 use Rattle.std.proofs.lemmas.Bool.{cases_order}
 use Rattle.hlc_stamp.specs.declared.limits.TheConstants.{MAX_NODES}
-use Rattle.hlc_csv.specs.Rows.{Fields, text_of, text_of_row}
+use Rattle.hlc_csv.specs.Rows.{Fields, text_of}
 use Rattle.hlc_log.specs.declared.log_event.LogEvent.{LogEvent}
 use Rattle.hlc_log.specs.declared.order_fault.OrderFault.{OrderFault}
 use Rattle.hlc_log.specs.declared.order_fault.OrderFault.TheVariants.{Cycle, Memory, SentTwice, Unsent}
@@ -12,7 +12,6 @@ use Rattle.hlc_log.specs.Faults.{IsFaultOf, IsFirst}
 use Rattle.hlc_log.specs.Messages.{ReceivesUnsent, SendsAgain}
 use Rattle.hlc_log.proofs.Agreement.{faults_leave_no_order}
 use Rattle.hlc_log_text.specs.Question.{Asked}
-use Rattle.hlc_log_text.specs.StampForms.{greatest_c}
 use Rattle.hlc_log_text.specs.declared.log_text.LogText.{LogText}
 use Rattle.hlc_log_text.specs.declared.question.LogQuestion.{LogQuestion}
 use Rattle.hlc_log_audit.specs.Answers.{AreAnswers}
@@ -20,18 +19,21 @@ use Rattle.hlc_log_report.specs.InOrder.{AreFilled, IsInOrder, LogInOrder, fille
 use Rattle.hlc_log_report.proofs.Filled.{filled_causal, filled_itself, filled_sound}
 use Rattle.hlc_log_report.proofs.GivenStamps.{filled_twice}
 use Rattle.hlc_log_report.proofs.Rearranged.{given_stamps_agree, one_log, tell_the_same}
-use Rattle.hlc_log_audit.specs.Lines.{LinesRise}
+use Rattle.hlc_open_log.specs.Opened.{LinesRise}
 use Rattle.hlc_log_audit.proofs.SameAnswers.{answers_agree}
-use Rattle.hlc_log_audit.specs.Audit.{IsReportIf, is_reported, AreRowsTold, IsFaultShown, IsTextAudited, IsTold, all_asked, audited_events, bad_row, order_fault_place, order_fault_word, unsent_of, missing_rows, unsent_row}
+use Rattle.hlc_open_log.specs.Opened.{OpenedLog, opened_events}
+use Rattle.hlc_open_log.proofs.OpenedLogs.{no_memory, one_text}
+use Rattle.hlc_log_audit.specs.Audit.{IsReportIf, is_reported, AreRowsTold, IsDisorderShown, IsTextAudited, IsTold, all_asked, missing_rows, unsent_row}
 use Rattle.hlc_log_audit.specs.Laws.{AuditsAgree}
 use Rattle.hlc_log_audit.specs.Report.{AreOverRows, IsReport}
 use Rattle.hlc_log_audit.specs.declared.outcome.Outcome.{Outcome}
 use Rattle.hlc_log_audit.specs.declared.outcome.Outcome.TheVariants as outcome
 use Rattle.hlc_log_audit.specs.declared.rules.AuditRules.{AuditRules}
-use Rattle.hlc_log_audit.proofs.LinesKept.{rise_filled, rise_kept}
+use Rattle.hlc_open_log.proofs.LinesKept.{rise_filled, rise_kept}
 use Rattle.hlc_log_audit.proofs.OverRows.{same_over_rows}
 use Rattle.hlc_log_audit.proofs.SameOutcomes.{outcomes_agree}
 use Rattle.hlc_log_audit.proofs.SameReports.{reports_agree}
+use Rattle.hlc_log_audit.proofs.Telling.{opened_alike}
 
 -- filled events, with the stamps that they had
 pub unfilled : (events filled : List LogEvent) → AreFilled events filled → AreFilled filled events
@@ -74,26 +76,21 @@ no_answers : (nodes : List (List ℕ)) (labels : List (ℕ × List ℕ)) (log : 
 no_answers nodes labels log full [] are = refl
 no_answers nodes labels log full (row ∷ rows) are = absurd are
 
-pub told_report : (nodes : List (List ℕ)) (labels : List (ℕ × List ℕ)) (log : LogInOrder) (rules : AuditRules) (unsent : Option ℕ) (asked : List Asked)
-    (rows : List Fields) → asked ≡ [] → AreRowsTold nodes labels log rules unsent asked rows
-    → (report over : List Fields) × IsReport nodes log (greatest_c rules.records.form) report × AreOverRows nodes log rules.limit over
-    × (rows ≡ ((report ++ unsent_row unsent) ++ missing_rows log.events) ++ over)
-told_report nodes labels log rules unsent asked rows nothing told =
-    let alone : AreRowsTold nodes labels log rules unsent [] rows =
-    subst (λ (questions : List Asked). AreRowsTold nodes labels log rules unsent questions rows) nothing told in
+pub told_report : (opened : OpenedLog) (rules : AuditRules) (asked : List Asked) (rows : List Fields) → asked ≡ [] → AreRowsTold opened rules asked rows
+    → (report over : List Fields) × IsReport opened.nodes opened.log opened.full report × AreOverRows opened.nodes opened.log rules.limit over
+    × (rows ≡ ((report ++ unsent_row opened.unsent) ++ missing_rows opened.log.events) ++ over)
+told_report opened rules asked rows nothing told =
+    let alone : AreRowsTold opened rules [] rows = subst (λ (questions : List Asked). AreRowsTold opened rules questions rows) nothing told in
     let reported = alone.is_report in (
       reported.0,
       reported.1,
       reported.2,
       reported.3,
       alone.rows_are
-          ∙ ap (λ (answers : List Fields). alone.report ++ answers) (no_answers nodes labels log (greatest_c rules.records.form) alone.answers alone.are_answers)
+          ∙ ap (λ (answers : List Fields). alone.report ++ answers)
+          (no_answers opened.nodes opened.labels opened.log opened.full alone.answers alone.are_answers)
           ∙ append-nil alone.report ∙ reported.4,
     )
-
--- the lines of what is audited rise
-audited_rise : (rules : AuditRules) (events : List LogEvent) → LinesRise events → LinesRise (audited_events rules events)
-audited_rise rules events rise = rise_kept rules.unsent_local events rise
 
 -- one report, if it is to be written, and one list of answers
 module _ (nodes : List (List ℕ)) (labels : List (ℕ × List ℕ)) (log other : LogInOrder) (full : ℕ) (few : length nodes ≤ MAX_NODES)
@@ -125,10 +122,10 @@ module _ (nodes : List (List ℕ)) (labels : List (ℕ × List ℕ)) (log other 
 module _ (text : LogText) (rules : AuditRules) (asked : List LogQuestion) (few : length text.nodes ≤ MAX_NODES)
     (rise : LinesRise text.log.events) (before after others : List ℕ) where
   abbrev events : List LogEvent
-  events = audited_events rules text.log.events
+  events = opened_events rules.records text.log.events
 
   abbrev IsBad : List ℕ → Type 0
-  IsBad bytes = (fault : OrderFault) × IsFaultShown events fault (Some before) (Some bytes)
+  IsBad bytes = IsDisorderShown events (Some before) (Some bytes)
 
   abbrev Leaves : List ℕ → Outcome → Type 0
   Leaves bytes result = IsTold text rules asked (Some before) (Some bytes) result
@@ -141,39 +138,44 @@ module _ (text : LogText) (rules : AuditRules) (asked : List LogQuestion) (few :
   told_or_bad bytes (outcome.Broken over) told = inl told
 
   not_both : (bytes other_bytes : List ℕ) (result : Outcome) → Leaves bytes result → IsBad other_bytes → ⊥
-  not_both bytes other_bytes result told (fault, shown) =
-      let log = told.log in
-      let back = unfilled events log.events told.events in
-      faults_leave_no_order events fault shown.is_fault shown.no_memory (filled_sound log.events events back told.in_order.messages) log.order
-      (filled_causal log.events events back log.order told.in_order.causal)
+  not_both bytes other_bytes result told (bad, none, shown) =
+      let log = told.opened.log in
+      let is = told.is_opened.ordered in
+      let back = unfilled events log.events is.filled in
+      faults_leave_no_order events none.fault none.is_fault (no_memory none.fault bad.why none.reason)
+      (filled_sound log.events events back is.in_order.messages) log.order (filled_causal log.events events back log.order is.in_order.causal)
 
   bad_bytes : IsBad after → IsBad others → others ≡ after
-  bad_bytes (fault, shown) (other_fault, other_shown) =
-      let same : other_fault ≡ fault =
-      one_fault events other_fault fault other_shown.no_memory shown.no_memory other_shown.is_fault shown.is_fault in
-      other_shown.text
-      ∙ ap (λ (f : OrderFault). before ++ text_of_row (bad_row (event_at events (order_fault_place f)).line (order_fault_word f))) same
-      ∙ sym shown.text
+  bad_bytes (bad, none, shown) (other, other_none, other_shown) =
+      let same : other_none.fault ≡ none.fault =
+      one_fault events other_none.fault none.fault (no_memory other_none.fault other.why other_none.reason) (no_memory none.fault bad.why none.reason)
+      other_none.is_fault none.is_fault in
+      other_shown ∙ ap (λ (row : List ℕ). before ++ row) (one_text events bad other none other_none same) ∙ sym shown
 
   told_same : (result other_result : Outcome) → Leaves after result → Leaves others other_result → (other_result ≡ result) × (others ≡ after)
   told_same result other_result told other_told =
-      let log = told.log in
-      let other = other_told.log in
-      let clocks : other.receives ≡ log.receives = other_told.receives ∙ sym told.receives in
+      let opened = told.opened in
+      let log = opened.log in
+      let other = other_told.opened.log in
+      let is = told.is_opened.ordered in
+      let other_is = other_told.is_opened.ordered in
+      let clocks : other.receives ≡ log.receives = other_is.receives ∙ sym is.receives in
       let same : other.events ≡ log.events =
-      given_stamps_agree events log other clocks told.in_order other_told.in_order told.events other_told.events in
-      let one = one_log log other clocks told.in_order other_told.in_order same in
-      let full = greatest_c rules.records.form in
-      let questions = all_asked text.questions.items asked in
-      let log_rise : LinesRise log.events = rise_filled events log.events told.events (audited_rise rules text.log.events rise) in
+      given_stamps_agree events log other clocks is.in_order other_is.in_order is.filled other_is.filled in
+      let one = one_log log other clocks is.in_order other_is.in_order same in
+      let few_here : length opened.nodes ≤ MAX_NODES = rw told.is_opened.nodes few in
+      let log_rise : LinesRise log.events = rise_filled events log.events is.filled (rise_kept rules.records.unsent_local text.log.events rise) in
       let first = told.told in
-      let second = other_told.told in
+      let second : AreRowsTold (record opened { log = other }) rules (all_asked opened.questions asked) other_told.rows =
+      subst (λ (o : OpenedLog). AreRowsTold o rules (all_asked o.questions asked) other_told.rows)
+      (opened_alike rules.records text opened other_told.opened told.is_opened other_told.is_opened) other_told.told in
+      let questions = all_asked opened.questions asked in
       let report =
-      one_report text.nodes text.labels log other full few told.in_order other_told.in_order clocks same log_rise (is_reported rules questions)
-      (unsent_of rules text.log.events) rules.limit first.report second.report first.is_report second.is_report in
+      one_report opened.nodes opened.labels log other opened.full few_here is.in_order other_is.in_order clocks same log_rise (is_reported rules questions)
+      opened.unsent rules.limit first.report second.report first.is_report second.is_report in
       let answers =
-      same_answers text.nodes text.labels log other full few told.in_order other_told.in_order clocks same log_rise questions first.answers second.answers
-      first.are_answers second.are_answers in
+      same_answers opened.nodes opened.labels log other opened.full few_here is.in_order other_is.in_order clocks same log_rise questions
+      first.answers second.answers first.are_answers second.are_answers in
       let rows : other_told.rows ≡ told.rows =
       second.rows_are ∙ ap (λ (r : List Fields). r ++ second.answers) report ∙ ap (λ (r : List Fields). first.report ++ r) answers
       ∙ sym first.rows_are in (

@@ -1,13 +1,14 @@
 -- Which rows are told of a log.
-use Rattle.std.proofs.Common.{◌≡◌, ◌∙◌, ◌==◌, true, false, ℕ, List, [], ◌∷◌, Option, ap, length, subst, sym}
+use Rattle.std.proofs.Common.{◌≡◌, ◌∙◌, ◌==◌, true, false, ℕ, inl, inr, List, [], ◌∷◌, Option, length, refl, subst, sym}
 use Rattle.std.specs.Io.KnownBytes.{Appends}
-use Rattle.hlc_csv.specs.Rows.{Fields, text_of}
-use Rattle.hlc_log.specs.declared.log_event.LogEvent.{LogEvent}
-use Rattle.hlc_log.specs.declared.order_fault.OrderFault.{OrderFault}
-use Rattle.hlc_log_report.specs.InOrder.{AreFilled, IsInOrder, LogInOrder}
+use Rattle.hlc_log_text.specs.declared.log_rules.LogRules.{LogRules}
 use Rattle.hlc_log_text.specs.declared.log_text.LogText.{LogText}
 use Rattle.hlc_log_text.specs.declared.question.LogQuestion.{LogQuestion}
-use Rattle.hlc_log_audit.specs.Audit.{AreRowsTold, IsFaultShown, IsOutcome, IsTextAudited, IsTextOf, IsTold, all_asked, audited_events, is_reported, unsent_of}
+use Rattle.hlc_open_log.specs.Opened.{IsOpenedOf, OpenedLog}
+use Rattle.hlc_open_log.specs.Unopened.{ExplainsOpenFault, bad_text}
+use Rattle.hlc_open_log.specs.declared.bad_input.BadInput.{BadInput}
+use Rattle.hlc_open_log.specs.declared.fault.OpenFault.TheVariants.{Bad}
+use Rattle.hlc_log_audit.specs.Audit.{IsAudited, IsTextAudited, IsTold, all_asked, is_reported}
 use Rattle.hlc_log_audit.specs.declared.outcome.Outcome.{Outcome}
 use Rattle.hlc_log_audit.specs.declared.outcome.Outcome.TheVariants.{BadLog, Broken, OverLimit, Sound}
 use Rattle.hlc_log_audit.specs.declared.rules.AuditRules.{AuditRules}
@@ -26,37 +27,21 @@ told_is_audited text rules asked before after OverLimit told = told
 told_is_audited text rules asked before after (Broken over) told = told
 told_is_audited text rules asked before after BadLog told = absurd told.outcome
 
--- what is told of the parts of a log that was read is told of the log
-pub told_of_text : (text : LogText) (rules : AuditRules) (asked : List LogQuestion) (before after : Option (List ℕ)) (result : Outcome)
-    (events : List LogEvent) (nodes : List (List ℕ)) (labels : List (ℕ × List ℕ)) (questions : List LogQuestion)
-    → IsTextOf text events nodes labels questions
-    → (log : LogInOrder) → log.receives ≡ rules.records.receives → AreFilled (audited_events rules events) log.events → IsInOrder log
-    → (unsent : Option ℕ) → unsent ≡ unsent_of rules events
-    → (rows : List Fields) → AreRowsTold nodes labels log rules unsent (all_asked questions asked) rows → Appends before after (text_of rows)
-    → IsOutcome rules log result → IsTextAudited text rules asked before after result
-told_of_text text rules asked before after result events nodes labels questions is log receives events_are in_order unsent unsent_is rows told written outcome =
-    told_is_audited text rules asked before after result (record {
-      log = log;
-      receives = receives;
-      events = subst (λ (es : List LogEvent). AreFilled (audited_events rules es) log.events) is.events_are events_are;
-      in_order = in_order;
-      rows = rows;
-      told =
-          subst (λ (u : Option ℕ). AreRowsTold text.nodes text.labels log rules u (all_asked text.questions.items asked) rows)
-          (unsent_is ∙ ap (unsent_of rules) is.events_are)
-          (subst (λ (qs : List LogQuestion). AreRowsTold text.nodes text.labels log rules unsent (all_asked qs asked) rows) is.questions_are
-          (subst (λ (ls : List (ℕ × List ℕ)). AreRowsTold text.nodes ls log rules unsent (all_asked questions asked) rows) is.labels_are
-          (subst (λ (ns : List (List ℕ)). AreRowsTold ns labels log rules unsent (all_asked questions asked) rows) is.nodes_are told)));
-      written = written;
-      outcome = outcome;
-    })
+-- two logs that are opened of one text differ in their orders alone
+pub opened_alike : (rules : LogRules) (text : LogText) (one other : OpenedLog) → IsOpenedOf rules text one → IsOpenedOf rules text other
+    → other ≡ record one { log = other.log }
+opened_alike rules text one other is other_is =
+    let nodes : other.nodes ≡ one.nodes = other_is.nodes ∙ sym is.nodes in
+    let labels : other.labels ≡ one.labels = other_is.labels ∙ sym is.labels in
+    let questions : other.questions ≡ one.questions = other_is.questions ∙ sym is.questions in
+    let unsent : other.unsent ≡ one.unsent = other_is.ordered.taken ∙ sym is.ordered.taken in
+    let full : other.full ≡ one.full = other_is.full ∙ sym is.full in
+    λ i. record { log = other.log; nodes = nodes i; labels = labels i; questions = questions i; unsent = unsent i; full = full i }
 
--- and so is the fault that was shown of its events
-pub shown_of_text : (text : LogText) (rules : AuditRules) (asked : List LogQuestion) (before after : Option (List ℕ)) (result : Outcome)
-    (events : List LogEvent) (nodes : List (List ℕ)) (labels : List (ℕ × List ℕ)) (questions : List LogQuestion)
-    → IsTextOf text events nodes labels questions
-    → (now : List LogEvent) → now ≡ audited_events rules events → (fault : OrderFault) → result ≡ BadLog → IsFaultShown now fault before after
-    → IsTextAudited text rules asked before after result
-shown_of_text text rules asked before after result events nodes labels questions is now now_is fault bad shown =
-    subst (IsTextAudited text rules asked before after) (sym bad)
-    (fault, subst (λ (es : List LogEvent). IsFaultShown es fault before after) (now_is ∙ ap (audited_events rules) is.events_are) shown)
+-- bad input of which the row was written was audited
+pub bad_is_audited : (rules : AuditRules) (most : ℕ) (asked : List LogQuestion) (bytes before after : Option (List ℕ)) (bad : BadInput)
+    → ExplainsOpenFault rules.records most bytes (Bad bad) → Appends before after (bad_text bad) → IsAudited rules most asked bytes before after BadLog
+bad_is_audited rules most asked bytes before after bad (inl (line, read, is)) shown =
+    inr (record { bad = line; read = read; text = subst (λ (b : BadInput). Appends before after (bad_text b)) is shown; is_bad = refl })
+bad_is_audited rules most asked bytes before after bad (inr (text, read, none)) shown =
+    inl (record { text = text; read = read; left = (bad, none, shown) })

@@ -4,15 +4,9 @@ use Rattle.std.specs.Io.KnownBytes.{Appends}
 use Rattle.hlc_causality.specs.NodeEvents.{drift_at}
 use Rattle.hlc_causes.specs.declared.answers.Cause.TheVariants.{Behind, NotAbovePrevious, NotAboveSend}
 use Rattle.hlc_stamp.specs.declared.id.EventId.{EventId}
-use Rattle.hlc_csv.specs.Rows.{Fields, text_of, text_of_row}
-use Rattle.hlc_log.specs.Events.{event_at}
-use Rattle.hlc_log.specs.Faults.{IsFaultOf}
-use Rattle.hlc_log.specs.Unsent.{unsent_count, with_unsent}
+use Rattle.hlc_csv.specs.Rows.{Fields, text_of}
 use Rattle.hlc_log.specs.declared.log_event.LogEvent.{LogEvent}
-use Rattle.hlc_log.specs.declared.order_fault.OrderFault.{OrderFault}
-use Rattle.hlc_log.specs.declared.order_fault.OrderFault.TheVariants as order
 use Rattle.hlc_log_text.specs.StampForms.{greatest_c}
-use Rattle.hlc_log_text.specs.BadLog.{bad_log_word}
 use Rattle.hlc_log_text.specs.Question.{Asked, plain_asked}
 use Rattle.hlc_log_text.specs.ReadLog.{IsReadUpToBad, IsReadWhole}
 use Rattle.hlc_log_text.specs.declared.bad_log.BadLine.{BadLine}
@@ -21,45 +15,21 @@ use Rattle.hlc_log_text.specs.declared.question.LogQuestion.{LogQuestion}
 use Rattle.hlc_log_audit.specs.Answers.{AreAnswers}
 use Rattle.hlc_log_report.specs.Counts.{AreCounted}
 use Rattle.hlc_log_report.specs.Found.{BreaksAt}
-use Rattle.hlc_log_report.specs.InOrder.{AreFilled, IsInOrder, LogInOrder, reading_told, skeleton_of, wrong_of}
+use Rattle.hlc_log_report.specs.InOrder.{LogInOrder, reading_told, skeleton_of, wrong_of}
 use Rattle.hlc_log_report.specs.Outside.{from_outside_count}
 use Rattle.hlc_log_report.specs.Unread.{unread_count}
 use Rattle.hlc_log_report.specs.Unstamped.{unstamped_count}
 use Rattle.hlc_log_report.specs.declared.counts.Counts.{Counts}
+use Rattle.hlc_open_log.specs.Opened.{IsOpenedOf, OpenedLog, opened_events}
+use Rattle.hlc_open_log.specs.Unopened.{HasNoOrder, bad_record, bad_text}
+use Rattle.hlc_open_log.specs.declared.bad_input.BadInput.{BadInput}
 use Rattle.hlc_log_audit.specs.OverLimit.{IsClaimOver}
 use Rattle.hlc_log_audit.specs.Report.{AreOverRows, IsReport}
 use Rattle.hlc_log_audit.specs.declared.outcome.Outcome.{Outcome}
 use Rattle.hlc_log_audit.specs.declared.outcome.Outcome.TheVariants as outcome
 use Rattle.hlc_log_audit.specs.declared.rules.AuditRules.{AuditRules}
 
--- the row of the line at which a text is no log
-abbrev pub bad_row : ℕ → List ℕ → Fields
-bad_row line word = codes "bad" ∷ decimal line ∷ word ∷ []
-
--- the word of a fault of a log; out of memory has none
-abbrev pub order_fault_word : OrderFault → List ℕ
-order_fault_word (order.SentTwice e) = codes "sent-twice"
-order_fault_word (order.Unsent e) = codes "unsent"
-order_fault_word (order.Cycle e) = codes "cycle"
-order_fault_word order.Memory = []
-
--- the event that a fault of a log names
-abbrev pub order_fault_place : OrderFault → ℕ
-order_fault_place (order.SentTwice e) = e.0
-order_fault_place (order.Unsent e) = e.0
-order_fault_place (order.Cycle e) = e.0
-order_fault_place order.Memory = 0
-
--- the events that are audited: those that were read, with receives of unsent messages as coming in from outside if it is told what these carried,
--- and else as local if the rules say so
-abbrev pub audited_events : AuditRules → List LogEvent → List LogEvent
-audited_events rules events = with_unsent rules.unsent_local events
-
--- how many receives of unsent messages were taken as local events, if the rules say so
-abbrev pub unsent_of : AuditRules → List LogEvent → Option ℕ
-unsent_of rules events = if rules.unsent_local then Some (unsent_count events) else None
-
--- the row that tells it
+-- the row of how many receives of unsent messages were taken as local events, if the rules say so
 abbrev pub unsent_row : Option ℕ → List Fields
 unsent_row None = []
 unsent_row (Some count) = (codes "unsent" ∷ decimal count ∷ []) ∷ []
@@ -149,48 +119,33 @@ IsReportIf true nodes log full unsent limit rows =
     (report over : List Fields) × IsReport nodes log full report × AreOverRows nodes log limit over
     × (rows ≡ ((report ++ unsent_row unsent) ++ missing_rows log.events) ++ over)
 
--- rows are the report on a log in order, if it is to be written, and the answers to what is asked
-pub record AreRowsTold (nodes : List (List ℕ)) (labels : List (ℕ × List ℕ)) (log : LogInOrder) (rules : AuditRules) (unsent : Option ℕ)
-    (asked : List Asked) (rows : List Fields) : Type 0 where
+-- rows are the report on an opened log, if it is to be written, and the answers to what is asked
+pub record AreRowsTold (opened : OpenedLog) (rules : AuditRules) (asked : List Asked) (rows : List Fields) : Type 0 where
   pub report : List Fields
-  pub is_report : IsReportIf (is_reported rules asked) nodes log (greatest_c rules.records.form) unsent rules.limit report
+  pub is_report : IsReportIf (is_reported rules asked) opened.nodes opened.log opened.full opened.unsent rules.limit report
   pub answers : List Fields
-  pub are_answers : AreAnswers nodes labels log (greatest_c rules.records.form) asked answers
+  pub are_answers : AreAnswers opened.nodes opened.labels opened.log opened.full asked answers
   pub rows_are : rows ≡ report ++ answers
 
--- the writer got the row of a fault of some events, which is true of them
-pub record IsFaultShown (events : List LogEvent) (fault : OrderFault) (before after : Option (List ℕ)) : Type 0 where
-  pub is_fault : IsFaultOf events fault
-  pub no_memory : ¬ (fault ≡ order.Memory)
-  pub text : Appends before after (text_of_row (bad_row (event_at events (order_fault_place fault)).line (order_fault_word fault)))
+-- events have no causal order, and the writer got the row that says why
+abbrev pub IsDisorderShown : List LogEvent → (before after : Option (List ℕ)) → Type 0
+IsDisorderShown events before after = (bad : BadInput) × HasNoOrder events bad × Appends before after (bad_text bad)
 
--- a log that was read has a causal order, and the writer got the rows that tell of it, with this outcome; of its events those whose stamp isn't
--- told have one that was given
+-- a log that was read was opened, and the writer got the rows that tell of it, with this outcome
 pub record IsTold (text : LogText) (rules : AuditRules) (asked : List LogQuestion) (before after : Option (List ℕ)) (result : Outcome) : Type 0 where
-  pub log : LogInOrder
-  pub receives : log.receives ≡ rules.records.receives
-  pub events : AreFilled (audited_events rules text.log.events) log.events
-  pub in_order : IsInOrder log
+  pub opened : OpenedLog
+  pub is_opened : IsOpenedOf rules.records text opened
   pub rows : List Fields
-  pub told : AreRowsTold text.nodes text.labels log rules (unsent_of rules text.log.events) (all_asked text.questions.items asked) rows
+  pub told : AreRowsTold opened rules (all_asked opened.questions asked) rows
   pub written : Appends before after (text_of rows)
-  pub outcome : IsOutcome rules log result
+  pub outcome : IsOutcome rules opened.log result
 
--- what the audit of a log that was read left, with this outcome: the row of a fault, or what is told of it
+-- what the audit of a log that was read left, with this outcome: the row that says why it has no order, or what is told of it
 abbrev pub IsTextAudited : LogText → AuditRules → List LogQuestion → (before after : Option (List ℕ)) → Outcome → Type 0
-IsTextAudited text rules asked before after outcome.BadLog =
-    (fault : OrderFault) × IsFaultShown (audited_events rules text.log.events) fault before after
+IsTextAudited text rules asked before after outcome.BadLog = IsDisorderShown (opened_events rules.records text.log.events) before after
 IsTextAudited text rules asked before after outcome.Sound = IsTold text rules asked before after outcome.Sound
 IsTextAudited text rules asked before after outcome.OverLimit = IsTold text rules asked before after outcome.OverLimit
 IsTextAudited text rules asked before after (outcome.Broken over) = IsTold text rules asked before after (outcome.Broken over)
-
--- a log that was read has these events, names, labels and questions
-pub record IsTextOf (text : LogText) (events : List LogEvent) (nodes : List (List ℕ)) (labels : List (ℕ × List ℕ)) (questions : List LogQuestion)
-    : Type 0 where
-  pub events_are : events ≡ text.log.events
-  pub nodes_are : nodes ≡ text.nodes
-  pub labels_are : labels ≡ text.labels
-  pub questions_are : questions ≡ text.questions.items
 
 -- the bytes are a log, of which this was left
 pub record IsWholeAudited (rules : AuditRules) (most : ℕ) (asked : List LogQuestion) (bytes before after : Option (List ℕ)) (result : Outcome) : Type 0 where
@@ -202,7 +157,7 @@ pub record IsWholeAudited (rules : AuditRules) (most : ℕ) (asked : List LogQue
 pub record IsBadTextShown (rules : AuditRules) (most : ℕ) (bytes before after : Option (List ℕ)) (result : Outcome) : Type 0 where
   pub bad : BadLine
   pub read : IsReadUpToBad rules.records most bytes bad
-  pub text : Appends before after (text_of_row (bad_row bad.line (bad_log_word bad.why)))
+  pub text : Appends before after (bad_text (bad_record bad))
   pub is_bad : result ≡ outcome.BadLog
 
 -- what the audit of some bytes left, with this outcome, and with these questions asked beside the log

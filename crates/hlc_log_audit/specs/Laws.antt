@@ -19,7 +19,7 @@ use Rattle.hlc_log_report.specs.Reordered.{IsRearranged, TellTheSame, moved_posi
 use Rattle.hlc_log_audit.specs.Answers.{IsAnswer, drift_in}
 use Rattle.hlc_log_audit.specs.Audit.{ExceedsLimit, IsOutcome, IsTextAudited}
 use Rattle.hlc_log_audit.specs.ClaimedWay.{claimed_way}
-use Rattle.hlc_log_audit.specs.Lines.{LinesRise}
+use Rattle.hlc_open_log.specs.Opened.{LinesRise}
 use Rattle.hlc_log_audit.specs.Moved.{moved_drift}
 use Rattle.hlc_log_audit.specs.Report.{AreSkewRows, IsReport, count_row, joined, message_row, node_rows}
 use Rattle.hlc_log_audit.specs.ToldDrift.{NamesToldDrift, told_drift}

@@ -1,13 +1,9 @@
 -- The lines of a log, and the events whose records begin there.
-use Rattle.std.specs.Prelude.{◌≡◌, ◌==◌, ℕ, ◌<◌, All, AllPairs, List, Option, length, position, unwrap_or}
+use Rattle.std.specs.Prelude.{◌≡◌, ◌==◌, ℕ, ◌<◌, All, List, Option, length, position, unwrap_or}
 use Rattle.hlc_log.specs.CausalOrder.{place_at}
 use Rattle.hlc_log.specs.Events.{event_at}
 use Rattle.hlc_log.specs.declared.log_event.LogEvent.{LogEvent}
 use Rattle.hlc_log_report.specs.InOrder.{LogInOrder}
-
--- the record of each event begins on a later line than those before it
-abbrev pub LinesRise : List LogEvent → Type 0
-LinesRise events = AllPairs (λ d e. d.line < e.line) events
 
 -- the position of the event of a line, if there is one
 abbrev pub position_on : LogInOrder → ℕ → Option ℕ

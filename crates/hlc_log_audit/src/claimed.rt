@@ -3,7 +3,8 @@ ghost use Rattle.std.specs.Option.{ForSome};
 ghost use Rattle.hlc_csv.specs.Rows.{AddsRow};
 ghost use Rattle.hlc_log_report.specs.InOrder.{IsInOrder, claimed_of, skeleton_of};
 ghost use Rattle.hlc_log_audit.specs.Answers.{claimed_fields, if_event};
-ghost use Rattle.hlc_log_audit.specs.Lines.{AreEventsIn, LinesRise, position_on};
+ghost use Rattle.hlc_open_log.specs.Opened.{LinesRise};
+ghost use Rattle.hlc_log_audit.specs.Lines.{AreEventsIn, position_on};
 ghost use Rattle.hlc_causality.specs.Neighbours.{place_of};
 ghost use Rattle.hlc_stamp.specs.Ids.{places_of};
 ghost use Rattle.hlc_log_audit.specs.ClaimedWay.{IsWayOfL, claimed_way, greater_c, if_same_l, source_of};
@@ -120,8 +121,7 @@ pub(crate) fn push_claimed<W: Write>(
     line: Line,
     writer: &mut W,
 ) -> Result<(), OutputFault>
-    requires ordered { IsInOrder log.now }
-    requires rise { LinesRise log.now.events }
+    requires { LinesRise log.now.events }
     ensures { OnOk result (AddsRow W.contents writer.old writer.new rows.old rows.new
         (if_event (position_on log.now line.0) (claimed_fields log.now line.0))) }
 {

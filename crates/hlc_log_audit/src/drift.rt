@@ -1,6 +1,5 @@
-ghost use Rattle.std.specs.Prelude.{◌≡◌, ◌<◌, ◌≤◌, IfSome, OnOk, length, option_map, position};
+ghost use Rattle.std.specs.Prelude.{◌≡◌, ◌<◌, IfSome, OnOk, length, option_map, position};
 ghost use Rattle.std.specs.Str.{bytes_eq};
-ghost use Rattle.hlc_stamp.specs.declared.limits.TheConstants.{MAX_NODES};
 ghost use Rattle.hlc_csv.specs.Rows.{AddsRow};
 ghost use Rattle.hlc_log_report.specs.InOrder.{IsInOrder};
 ghost use Rattle.hlc_log_audit.specs.Answers.{drift_in, drift_row};
@@ -12,7 +11,7 @@ use hlc_csv::RowField::{Number, Text};
 use hlc_csv::{OutputFault, RowBuffer};
 use hlc_explain::{Drift, Missing};
 use hlc_log_report::OrderedLog;
-use hlc_log_text::Names;
+use hlc_open_log::OpenLog;
 use hlc_stamp::NodeId;
 use std::io::Write;
 
@@ -42,28 +41,26 @@ pub(crate) fn drift_from(
 // Answers how far the stamps of the node of a name ran ahead of its clock, by the tallies of nodes.
 pub(crate) fn push_drift<'a, W: Write>(
     rows: &mut RowBuffer,
-    nodes: &Names,
-    log: &OrderedLog,
+    log: &OpenLog,
     tallies: &[NodeTally],
     name: &'a [u8],
     writer: &mut W,
 ) -> Result<(), OutputFault>
-    requires ordered { IsInOrder log.now }
-    requires nodes { length nodes.now ≤ MAX_NODES }
-    requires tallies { AreTallies log.now tallies.now }
+    requires { AreTallies log.now.log tallies.now }
     ensures { OnOk result (AddsRow W.contents writer.old writer.new rows.old rows.new
-        (drift_row log.now name.now (position (bytes_eq name.now) nodes.now))) }
+        (drift_row log.now.log name.now (position (bytes_eq name.now) log.now.nodes))) }
 {
-    let Some(node) = nodes.number(name) else {
+    let Some(node) = log.nodes().number(name) else {
         return push_missing(rows, Missing::Node, writer);
     };
     let (word, name) = (Text(b"drift"), Text(name));
     let furthest = tallies[node].furthest;
-    match drift_from(log, NodeId(node as u16), furthest) {
+    let ordered = log.ordered();
+    match drift_from(ordered, NodeId(node as u16), furthest) {
         None => rows.push(&[word, name, Text(b"none")], writer),
         Some(drift) => {
-            let line = Number(u64::from(log.event(drift.event).line));
-            let origin = Number(u64::from(log.event(drift.origin).line));
+            let line = Number(u64::from(ordered.event(drift.event).line));
+            let origin = Number(u64::from(ordered.event(drift.origin).line));
             rows.push(&[word, name, Number(drift.ahead), line, origin], writer)
         }
     }

@@ -4,7 +4,8 @@ ghost use Rattle.hlc_causality.specs.FollowedClockChains.{clock_chain_of};
 ghost use Rattle.hlc_csv.specs.Rows.{AddsRow};
 ghost use Rattle.hlc_log_report.specs.InOrder.{IsInOrder, clocks_of};
 ghost use Rattle.hlc_log_audit.specs.Answers.{chain_fields, check_fields, explains, if_event};
-ghost use Rattle.hlc_log_audit.specs.Lines.{AreEventsIn, LinesRise, position_on};
+ghost use Rattle.hlc_open_log.specs.Opened.{LinesRise};
+ghost use Rattle.hlc_log_audit.specs.Lines.{AreEventsIn, position_on};
 ghost use Rattle.hlc_log_text.specs.Question.{numbers_of};
 
 use crate::lines::{find, position_or_end};
@@ -40,8 +41,7 @@ pub(crate) fn push_chain<W: Write>(
     line: Line,
     writer: &mut W,
 ) -> Result<(), OutputFault>
-    requires ordered { IsInOrder log.now }
-    requires rise { LinesRise log.now.events }
+    requires { LinesRise log.now.events }
     ensures { OnOk result (AddsRow W.contents writer.old writer.new rows.old rows.new
         (if_event (position_on log.now line.0) (chain_fields log.now line.0))) }
 {
@@ -55,8 +55,7 @@ pub(crate) fn push_chain<W: Write>(
 
 // Whether the events of some lines are a chain for the least stamp of the event of a line.
 fn explains(alloc: Global, log: &OrderedLog, line: Line, lines: &[Line]) -> Result<bool, AllocError>
-    requires ordered { IsInOrder log.now }
-    requires rise { LinesRise log.now.events }
+    requires { LinesRise log.now.events }
     ensures { IfOk result (λ holds. holds ≡ explains log.now line.0 (numbers_of lines.now)) }
 {
     let mut events = Vec::new(alloc);
@@ -75,8 +74,7 @@ pub(crate) fn push_check<W: Write>(
     lines: &[Line],
     writer: &mut W,
 ) -> Result<(), OutputFault>
-    requires ordered { IsInOrder log.now }
-    requires rise { LinesRise log.now.events }
+    requires { LinesRise log.now.events }
     ensures { OnOk result (AddsRow W.contents writer.old writer.new rows.old rows.new
         (check_fields log.now line.0 (numbers_of lines.now))) }
 {

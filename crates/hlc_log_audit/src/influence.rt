@@ -6,7 +6,8 @@ ghost use Rattle.hlc_explain.specs.Findings.{influenced_by};
 ghost use Rattle.hlc_csv.specs.Rows.{AddsRow, Fields};
 ghost use Rattle.hlc_log_report.specs.InOrder.{IsInOrder, skeleton_of};
 ghost use Rattle.hlc_log_audit.specs.Answers.{AreRisingLinesOf, IfEvent, TellsInfluenced};
-ghost use Rattle.hlc_log_audit.specs.Lines.{AreEventsIn, LinesRise, position_on};
+ghost use Rattle.hlc_open_log.specs.Opened.{LinesRise};
+ghost use Rattle.hlc_log_audit.specs.Lines.{AreEventsIn, position_on};
 
 use crate::lines::{find, push_lines};
 use crate::words::push_missing;
@@ -74,8 +75,7 @@ pub(crate) fn push_influenced<W: Write>(
     line: Line,
     writer: &mut W,
 ) -> Result<(), OutputFault>
-    requires ordered { IsInOrder log.now }
-    requires rise { LinesRise log.now.events }
+    requires { LinesRise log.now.events }
     ensures { OnOk result ((row : Fields) × IfEvent (position_on log.now line.0) (TellsInfluenced log.now line.0) row
         × AddsRow W.contents writer.old writer.new rows.old rows.new row) }
 {

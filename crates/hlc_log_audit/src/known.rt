@@ -1,9 +1,8 @@
 ghost use Rattle.std.specs.Prelude.{◌≡◌, OnOk, option_map};
 ghost use Rattle.std.specs.Borrow.{Bor};
 ghost use Rattle.hlc_csv.specs.Rows.{AddsRow, Fields, row_field_bytes};
-ghost use Rattle.hlc_log_report.specs.InOrder.{IsInOrder};
 ghost use Rattle.hlc_log_audit.specs.Answers.{IfEvent, TellsEvent, event_fields, reading_field};
-ghost use Rattle.hlc_log_audit.specs.Lines.{LinesRise, position_on};
+ghost use Rattle.hlc_log_audit.specs.Lines.{position_on};
 
 use crate::lines::find;
 use crate::words::{found_word, push_missing};
@@ -12,8 +11,8 @@ use hlc_csv::RowField::{Number, Text};
 use hlc_csv::{OutputFault, RowBuffer, RowField};
 use hlc_explain::Missing;
 use hlc_log::LogEvent;
-use hlc_log_report::OrderedLog;
-use hlc_log_text::{Labels, Line, Names, node_name};
+use hlc_log_text::{Line, node_name};
+use hlc_open_log::OpenLog;
 use hlc_stamp::Stamp;
 use std::io::Write;
 
@@ -73,33 +72,22 @@ fn push_known<'a, W: Write>(
 // Answers what is known of the event of a line.
 pub(crate) fn push_event<W: Write>(
     rows: &mut RowBuffer,
-    nodes: &Names,
-    labels: &Labels,
-    log: &OrderedLog,
-    full: u32,
+    log: &OpenLog,
     line: Line,
     writer: &mut W,
 ) -> Result<(), OutputFault>
-    requires ordered { IsInOrder log.now }
-    requires rise { LinesRise log.now.events }
-    ensures { OnOk result ((row : Fields) × IfEvent (position_on log.now line.0) (TellsEvent nodes.now labels.now log.now full line.0) row
+    ensures { OnOk result ((row : Fields)
+        × IfEvent (position_on log.now.log line.0) (TellsEvent log.now.nodes log.now.labels log.now.log log.now.full line.0) row
         × AddsRow W.contents writer.old writer.new rows.old rows.new row) }
 {
-    let Some(at) = find(log, line) else {
+    let ordered = log.ordered();
+    let Some(at) = find(ordered, line) else {
         return push_missing(rows, Missing::Event, writer);
     };
-    let event = log.event(at.position);
-    let name = node_name(nodes, event.node);
-    let least = log.execution().stamp(at.position);
-    let found = log.finding(at.position, full);
-    push_known(
-        rows,
-        name,
-        line,
-        event,
-        least,
-        found,
-        labels.get(at.place),
-        writer,
-    )
+    let event = ordered.event(at.position);
+    let name = node_name(log.nodes(), event.node);
+    let least = ordered.execution().stamp(at.position);
+    let found = ordered.finding(at.position, log.full());
+    let label = log.labels().get(at.place);
+    push_known(rows, name, line, event, least, found, label, writer)
 }

@@ -19,7 +19,7 @@
 //! - `messages,SENT,RECEIVED,REPEATED,UNRECEIVED`: the counts of `MessageCounts`.
 //! - `skew,FROM,TO,AHEAD,SEND,RECEIVE`: how far the clock of one node is ahead of another's by the messages between them, with
 //!   its sign, and the lines of the message that shows it.
-//! - `unsent,N`: how many receives of messages that nobody sends were taken as local events, if `AuditRules` say so.
+//! - `unsent,N`: how many receives of messages that nobody sends were taken as local events, if `LogRules` say so.
 //! - `outside,N`: how many receives of such messages tell what these carried, if some do: they came in from outside of the log.
 //! - `unread,N`: how many events have no reading, if there are some.
 //! - `unstamped,N`: how many receives have no stamp, if there are some. Each has the one that the clock rule gives it, and no verdict.
@@ -40,12 +40,10 @@
 //!
 //! Text that is not a log is answered by the one row `bad,LINE,WHY`.
 //!
-//! Of a log that is in memory, in a causal order (`hlc_log_report`), `push_report` adds the rows of the report, and `push_answer` the one row
-//! that answers a question (`hlc_log_text::LogQuestion`). `claimed_way` is the way that the `l` of a claimed stamp came, event by event. Whoever
-//! reads a log for another purpose reads it as an audit does with `take_unsent`, and answers text that is not a log with `tell_bad` and
-//! `tell_fault`.
+//! Of an opened log (`hlc_open_log`) `push_report` adds the rows of the report, and `push_answer` the one row that answers a question
+//! (`hlc_log_text::LogQuestion`). `claimed_way` is the way that the `l` of a claimed stamp came, event by event.
 //!
-//! But for that way it finds nothing itself: `hlc_log_text` reads, and `hlc_log_report`, `hlc_causes` and `hlc_explain` find.
+//! But for that way it finds nothing itself: `hlc_open_log` reads, and `hlc_log_report`, `hlc_causes` and `hlc_explain` find.
 //!
 //! `laws` says that an audit is a function of its log, what it leaves if all stamps are the least ones, that a log has one answer to each
 //! question, and that drifts and the ways of claimed stamps don't depend on the order in which it tells of its events.
@@ -71,23 +69,16 @@
 //! ```rust
 //! pub fn answer_text(
 //!     alloc: Global,
-//!     nodes: &Names,
-//!     labels: &Labels,
-//!     log: &OrderedLog,
-//!     full: u32,
+//!     log: &OpenLog,
 //!     question: &LogQuestion,
 //! ) -> Result<Vec<u8>, OutputFault>
-//!     requires ordered { IsInOrder log.now }
-//!     requires rise { LinesRise log.now.events }
-//!     requires nodes { length nodes.now ≤ MAX_NODES }
-//!     ensures { IfOk result (λ text. (row : Fields) × IsAnswer nodes.now labels.now log.now full (plain_asked question.now) row
+//!     ensures { IfOk result (λ text. (row : Fields)
+//!         × IsAnswer log.now.nodes log.now.labels log.now.log log.now.full (plain_asked question.now) row
 //!         × (text.items ≡ text_of_row row)) }
 //! {
 //!     let mut text = Vec::new(alloc);
 //!     let mut rows = RowBuffer::new(alloc);
-//!     push_answer(
-//!         alloc, &mut rows, nodes, labels, log, full, question, &mut text,
-//!     )?;
+//!     push_answer(alloc, &mut rows, log, question, &mut text)?;
 //!     rows.finish(&mut text)?;
 //!     Ok(text)
 //! }
@@ -121,7 +112,7 @@ mod way;
 mod words;
 
 pub use answer::push_answer;
-pub use audit::{audit_run, audit_up_to, take_unsent, tell_bad, tell_fault};
+pub use audit::{audit_run, audit_up_to};
 pub use claimed::claimed_way;
 pub use hlc_csv::RecordsFault;
 pub use outcome::Outcome;

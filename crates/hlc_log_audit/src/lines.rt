@@ -4,7 +4,8 @@ ghost use Rattle.std.specs.Prelude.{◌≡◌, ℕ, ◌++◌, IfNone, IfSome, On
 ghost use Rattle.hlc_stamp.specs.Ids.{places_of};
 ghost use Rattle.hlc_causality.specs.Neighbours.{place_of};
 ghost use Rattle.hlc_log_report.specs.InOrder.{IsInOrder, line_in};
-ghost use Rattle.hlc_log_audit.specs.Lines.{AreEventsIn, HasNumbers, IsOnLine, LinesRise, position_on, position_or_end};
+ghost use Rattle.hlc_open_log.specs.Opened.{LinesRise};
+ghost use Rattle.hlc_log_audit.specs.Lines.{AreEventsIn, HasNumbers, IsOnLine, position_on, position_or_end};
 
 use hlc_log_report::OrderedLog;
 use hlc_log_text::Line;
@@ -23,6 +24,7 @@ pub(crate) struct Found {
 // The place of the event whose record begins on a line, if there is one.
 fn place_on(log: &OrderedLog, line: Line) -> Option<EventId>
     requires { LinesRise log.now.events }
+    ensures ordered { IsInOrder log.now }
     ensures found { IfSome result (λ place. IsOnLine log.now.events line.0 place.0) }
     ensures none { IfNone result ((e : ℕ) → ¬ IsOnLine log.now.events line.0 e) }
 {
@@ -45,8 +47,8 @@ fn place_on(log: &OrderedLog, line: Line) -> Option<EventId>
 
 // The event of a line, if there is one.
 pub(crate) fn find(log: &OrderedLog, line: Line) -> Option<Found>
-    requires ordered { IsInOrder log.now }
-    requires rise { LinesRise log.now.events }
+    requires { LinesRise log.now.events }
+    ensures ordered { IsInOrder log.now }
     ensures position { option_map (λ found. found.position.0) result ≡ position_on log.now line.0 }
     ensures numbers { IfSome result (λ found. HasNumbers log.now found.place.0 found.position.0) }
 {
@@ -61,8 +63,7 @@ pub(crate) fn find(log: &OrderedLog, line: Line) -> Option<Found>
 
 // The position of the event of a line, or the end of the log if there is none.
 pub(crate) fn position_or_end(log: &OrderedLog, line: Line) -> EventId
-    requires ordered { IsInOrder log.now }
-    requires rise { LinesRise log.now.events }
+    requires { LinesRise log.now.events }
     ensures { result.0 ≡ position_or_end log.now line.0 }
 {
     match find(log, line) {

@@ -5,7 +5,7 @@ ghost use Rattle.hlc_stamp.specs.declared.limits.TheConstants.{MAX_CAPACITY};
 ghost use Rattle.hlc_csv.specs.Rows.{AddsRow, AddsRows, Fields};
 ghost use Rattle.hlc_log.specs.Events.{event_at};
 ghost use Rattle.hlc_log_report.specs.InOrder.{IsInOrder};
-ghost use Rattle.hlc_log_audit.specs.Lines.{LinesRise};
+ghost use Rattle.hlc_open_log.specs.Opened.{LinesRise};
 ghost use Rattle.hlc_log_audit.specs.OverLimit.{AreOvers, AreOversBefore, with_claim};
 ghost use Rattle.hlc_log_audit.specs.Report.{AreOverRows, NamesPlaces, origin_field, over_fields, over_row, over_rows};
 
@@ -16,7 +16,8 @@ use crate::over::Over;
 use hlc_csv::RowField::{Number, Text};
 use hlc_csv::{OutputFault, RowBuffer};
 use hlc_log_report::OrderedLog;
-use hlc_log_text::{Names, node_name};
+use hlc_log_text::node_name;
+use hlc_open_log::OpenLog;
 use hlc_stamp::{EventId, MAX_NODES, NodeId};
 use std::io::Write;
 
@@ -72,7 +73,6 @@ fn add_claim(log: &OrderedLog, limit: u64, place: EventId, overs: &mut [Option<O
 
 // What of each node's claims is over a limit. It goes over the events once.
 fn overs_of(log: &OrderedLog, limit: u64) -> [Option<Over>; MAX_NODES as usize]
-    requires { IsInOrder log.now }
     ensures { AreOvers limit log.now.events result }
 {
     let mut overs = [None; MAX_NODES as usize];
@@ -96,41 +96,36 @@ fn origin_line(log: &OrderedLog, place: EventId) -> u32
 // Adds the row of a node whose claims are over the limit.
 fn push_over<W: Write>(
     rows: &mut RowBuffer,
-    nodes: &Names,
-    log: &OrderedLog,
+    log: &OpenLog,
     node: NodeId,
     over: Over,
     writer: &mut W,
 ) -> Result<(), OutputFault>
-    requires ordered { IsInOrder log.now }
-    requires rise { LinesRise log.now.events }
-    requires places { NamesPlaces log.now over }
-    ensures { OnOk result (AddsRow W.contents writer.old writer.new rows.old rows.new (over_fields nodes.now log.now node.0 over)) }
+    requires { NamesPlaces log.now.log over }
+    ensures { OnOk result (AddsRow W.contents writer.old writer.new rows.old rows.new (over_fields log.now.nodes log.now.log node.0 over)) }
 {
-    let (word, name) = (Text(b"over"), Text(node_name(nodes, node)));
+    let ordered = log.ordered();
+    let (word, name) = (Text(b"over"), Text(node_name(log.nodes(), node)));
     let claims = Number(u64::from(over.claims));
-    let first = Number(u64::from(log.at(over.first).line));
+    let first = Number(u64::from(ordered.at(over.first).line));
     let ahead = Number(over.ahead);
-    let origin = Number(u64::from(origin_line(log, over.furthest)));
+    let origin = Number(u64::from(origin_line(ordered, over.furthest)));
     rows.push(&[word, name, claims, first, ahead, origin], writer)
 }
 
 // Adds the row of a node, if its claims are over the limit.
 fn push_if_over<W: Write>(
     rows: &mut RowBuffer,
-    nodes: &Names,
-    log: &OrderedLog,
+    log: &OpenLog,
     node: NodeId,
     over: Option<Over>,
     writer: &mut W,
 ) -> Result<(), OutputFault>
-    requires ordered { IsInOrder log.now }
-    requires rise { LinesRise log.now.events }
-    requires places { IfSome over (NamesPlaces log.now) }
-    ensures { OnOk result (AddsRows W.contents writer.old writer.new rows.old rows.new (over_row nodes.now log.now node.0 over)) }
+    requires { IfSome over (NamesPlaces log.now.log) }
+    ensures { OnOk result (AddsRows W.contents writer.old writer.new rows.old rows.new (over_row log.now.nodes log.now.log node.0 over)) }
 {
     match over {
-        Some(over) => push_over(rows, nodes, log, node, over, writer),
+        Some(over) => push_over(rows, log, node, over, writer),
         None => Ok(()),
     }
 }
@@ -138,21 +133,17 @@ fn push_if_over<W: Write>(
 // Adds the rows of the nodes whose claims are over the limit, in the order of their numbers.
 fn push_each_over<W: Write>(
     rows: &mut RowBuffer,
-    nodes: &Names,
-    log: &OrderedLog,
+    log: &OpenLog,
     limit: u64,
     overs: &[Option<Over>],
     writer: &mut W,
 ) -> Result<(), OutputFault>
-    requires ordered { IsInOrder log.now }
-    requires rise { LinesRise log.now.events }
-    requires nodes { length nodes.now ≤ MAX_NODES }
-    requires overs { AreOvers limit log.now.events overs.now }
-    ensures { OnOk result (AddsRows W.contents writer.old writer.new rows.old rows.new (over_rows nodes.now log.now overs.now)) }
+    requires { AreOvers limit log.now.log.events overs.now }
+    ensures { OnOk result (AddsRows W.contents writer.old writer.new rows.old rows.new (over_rows log.now.nodes log.now.log overs.now)) }
 {
-    for node in 0..nodes.len() {
+    for node in 0..log.nodes().len() {
         let over = overs[node];
-        push_if_over(rows, nodes, log, NodeId(node as u16), over, writer)?;
+        push_if_over(rows, log, NodeId(node as u16), over, writer)?;
     }
     Ok(())
 }
@@ -160,21 +151,17 @@ fn push_each_over<W: Write>(
 // Adds the rows of the nodes whose claims are over the limit, if there is one.
 pub(crate) fn push_overs<W: Write>(
     rows: &mut RowBuffer,
-    nodes: &Names,
-    log: &OrderedLog,
+    log: &OpenLog,
     limit: Option<u64>,
     writer: &mut W,
 ) -> Result<(), OutputFault>
-    requires ordered { IsInOrder log.now }
-    requires rise { LinesRise log.now.events }
-    requires nodes { length nodes.now ≤ MAX_NODES }
-    ensures { OnOk result ((added : List Fields) × AreOverRows nodes.now log.now limit added
+    ensures { OnOk result ((added : List Fields) × AreOverRows log.now.nodes log.now.log limit added
         × AddsRows W.contents writer.old writer.new rows.old rows.new added) }
 {
     match limit {
         Some(limit) => {
-            let overs = overs_of(log, limit);
-            push_each_over(rows, nodes, log, limit, &overs, writer)
+            let overs = overs_of(log.ordered(), limit);
+            push_each_over(rows, log, limit, &overs, writer)
         }
         None => Ok(()),
     }

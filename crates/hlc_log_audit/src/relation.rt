@@ -3,7 +3,8 @@ ghost use Rattle.hlc_explain.specs.Findings.{relation_of};
 ghost use Rattle.hlc_csv.specs.Rows.{AddsRow};
 ghost use Rattle.hlc_log_report.specs.InOrder.{IsInOrder, skeleton_of};
 ghost use Rattle.hlc_log_audit.specs.Answers.{if_event, relation_fields};
-ghost use Rattle.hlc_log_audit.specs.Lines.{LinesRise, position_on};
+ghost use Rattle.hlc_open_log.specs.Opened.{LinesRise};
+ghost use Rattle.hlc_log_audit.specs.Lines.{position_on};
 
 use crate::lines::find;
 use crate::words::push_missing;
@@ -35,8 +36,7 @@ pub(crate) fn push_relation<W: Write>(
     second: Line,
     writer: &mut W,
 ) -> Result<(), OutputFault>
-    requires ordered { IsInOrder log.now }
-    requires rise { LinesRise log.now.events }
+    requires { LinesRise log.now.events }
     ensures { OnOk result (AddsRow W.contents writer.old writer.new rows.old rows.new
         (if_event (position_on log.now first.0) (λ j. if_event (position_on log.now second.0) (relation_fields log.now first.0 second.0 j)))) }
 {

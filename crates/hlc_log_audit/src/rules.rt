@@ -5,8 +5,6 @@ use hlc_log_text::LogRules;
 pub struct AuditRules {
     /// How the records of the log are read.
     pub records: LogRules,
-    /// Whether a receive of a message that nobody sends is taken as a local event, unless it tells what that carried.
-    pub unsent_local: bool,
     /// How far `l` may be above a reading that is told, by the least stamps and by the claimed ones, if there is a limit.
     pub limit: Option<u64>,
     /// Whether the report is also written if something is asked.

@@ -42,7 +42,6 @@ fn is_beyond(log: &OrderedLog, limit: u64, position: EventId) -> bool
 
 // Whether a drift exceeds a limit, if there is one.
 fn exceeds_limit(log: &OrderedLog, limit: Option<u64>) -> bool
-    requires { IsInOrder log.now }
     ensures { IsTrue result ↔ ExceedsLimit limit log.now }
 {
     let Some(limit) = limit else {
@@ -73,7 +72,6 @@ fn claims_over(log: &OrderedLog, limit: Option<u64>) -> bool
 
 // Whether a log is over a limit, if there is one.
 fn is_over_limit(log: &OrderedLog, limit: Option<u64>) -> bool
-    requires { IsInOrder log.now }
     ensures { IsTrue result ↔ IsOverLimit limit log.now }
 {
     exceeds_limit(log, limit) || claims_over(log, limit)
@@ -81,8 +79,7 @@ fn is_over_limit(log: &OrderedLog, limit: Option<u64>) -> bool
 
 // What is to be said of a log whose stamps have these verdicts.
 pub(crate) fn outcome(log: &OrderedLog, counts: Counts, rules: AuditRules) -> Outcome
-    requires ordered { IsInOrder log.now }
-    requires counts { AreCounted log.now (greatest_c rules.records.form) counts }
+    requires { AreCounted log.now (greatest_c rules.records.form) counts }
     ensures { IsOutcome rules log.now result }
 {
     let over_limit = is_over_limit(log, rules.limit);

@@ -70,7 +70,6 @@ fn add_event(log: &OrderedLog, position: EventId, tallies: &mut [NodeTally])
 
 // How many events each node has, and which of them is furthest ahead. It goes over the events once.
 pub(crate) fn tally_nodes(log: &OrderedLog) -> [NodeTally; MAX_NODES as usize]
-    requires { IsInOrder log.now }
     ensures { AreTallies log.now result }
 {
     let none = NodeTally {

@@ -1,1 +1,1 @@
-pub mod DrawnLogs
+mod DrawnLogs

@@ -12,7 +12,7 @@ use Rattle.hlc_command_fault.specs.declared.command_fault.CommandFault.TheVarian
 
 -- the rules that the options of a command line give
 abbrev pub rules_of : AuditOptions → AuditRules
-rules_of options = record { records = options.records; unsent_local = options.unsent_local; limit = options.limit; report = options.report }
+rules_of options = record { records = options.records; limit = options.limit; report = options.report }
 
 -- the log was audited by these options, with these questions asked beside it, and with this outcome
 abbrev pub IsAuditedBy : AuditOptions → List LogQuestion → (input before after : Option (List ℕ)) → Outcome → Type 0

@@ -1,19 +1,15 @@
 -- What was drawn of a log.
-use Rattle.std.specs.Prelude.{◌≡◌, ◌⊎◌, ℕ, List, [], Option, None, Some, false}
+use Rattle.std.specs.Prelude.{◌≡◌, ◌⊎◌, ℕ, List, Option, None, Some}
 use Rattle.std.specs.Io.KnownBytes.{Appends}
 use Rattle.hlc_stamp.specs.declared.limits.TheConstants.{MAX_CAPACITY}
-use Rattle.hlc_log_text.specs.StampForms.{greatest_c}
 use Rattle.hlc_stamp.specs.declared.id.EventId.{EventId}
 use Rattle.hlc_diagram.specs.ChainPicture.{chain_picture_text}
 use Rattle.hlc_diagram.specs.Picture.{picture_text}
 use Rattle.hlc_diagram.specs.declared.view.View.{View}
-use Rattle.hlc_log.specs.declared.log_event.LogEvent.{LogEvent}
-use Rattle.hlc_log_text.specs.ReadLog.{IsReadWhole}
-use Rattle.hlc_log_text.specs.declared.log_text.LogText.{LogText}
-use Rattle.hlc_log_audit.specs.Audit.{IsAudited, IsTextAudited, audited_events}
-use Rattle.hlc_log_audit.specs.declared.outcome.Outcome.TheVariants as outcome
-use Rattle.hlc_log_audit.specs.declared.rules.AuditRules.{AuditRules}
-use Rattle.hlc_log_report.specs.InOrder.{AreFilled}
+use Rattle.hlc_open_log.specs.Opened.{IsOpened, OpenedLog}
+use Rattle.hlc_open_log.specs.Unopened.{ExplainsOpenFault, bad_text}
+use Rattle.hlc_open_log.specs.declared.bad_input.BadInput.{BadInput}
+use Rattle.hlc_open_log.specs.declared.fault.OpenFault.TheVariants as fault
 use Rattle.hlc_log_picture.specs.Drawn.{DrawnLog, IsDrawnOf, drawn_log, drawn_log_chain}
 use Rattle.hlc_log_picture.specs.Viewed.{HasNoRow, IsRowOn, IsViewAround, IsViewBetween}
 use Rattle.hlc_command_line.specs.declared.line_order.DrawLogOptions.{DrawLogOptions}
@@ -23,27 +19,6 @@ use Rattle.hlc_command_line.specs.declared.line_order.LogRows.{LogRows}
 use Rattle.hlc_command_line.specs.declared.line_order.LogRows.TheVariants.{Around, Between}
 use Rattle.hlc_command_fault.specs.declared.command_fault.CommandFault.{CommandFault}
 use Rattle.hlc_command_fault.specs.declared.command_fault.CommandFault.TheVariants as stop
-
--- the rules by which an audit reads a log as a picture does
-abbrev pub reading_rules : DrawLogOptions → AuditRules
-reading_rules options = record { records = options.records; unsent_local = options.unsent_local; limit = None; report = false }
-
--- the log that is drawn: that which was read, with receives of unsent messages as coming in from outside if it is told what these carried, and else
--- as local if the options say so
-abbrev pub drawn_text : DrawLogOptions → LogText → LogText
-drawn_text options text = record text { log = record text.log { events = audited_events (reading_rules options) text.log.events } }
-
--- a log that was read has these events, names and labels
-pub record IsMadeOf (text : LogText) (events : List LogEvent) (nodes : List (List ℕ)) (labels : List (ℕ × List ℕ)) : Type 0 where
-  pub events_are : events ≡ text.log.events
-  pub nodes_are : nodes ≡ text.nodes
-  pub labels_are : labels ≡ text.labels
-
--- it has these events once each without a stamp is given one, and these names and labels
-pub record IsFilledOf (text : LogText) (events : List LogEvent) (nodes : List (List ℕ)) (labels : List (ℕ × List ℕ)) : Type 0 where
-  pub events_are : AreFilled text.log.events events
-  pub nodes_are : nodes ≡ text.nodes
-  pub labels_are : labels ≡ text.labels
 
 -- a view has the rows of a log that are to be drawn, and explains the event of a line
 abbrev pub IsViewOf : DrawnLog → LogRows → (explained : Option ℕ) → View → Type 0
@@ -76,23 +51,23 @@ HasPicture drawn (Chain line) before after =
 abbrev pub IsPartDrawn : DrawnLog → LogPart → (before after : Option (List ℕ)) → Type 0
 IsPartDrawn drawn part before after = HasPicture drawn part before after × (¬ LacksNamed drawn part)
 
--- a part of a log is drawn
-pub record IsTextDrawn (options : DrawLogOptions) (text : LogText) (before after : Option (List ℕ)) : Type 0 where
+-- a part of an opened log is drawn
+pub record IsOpenedDrawn (opened : OpenedLog) (part : LogPart) (before after : Option (List ℕ)) : Type 0 where
   pub drawn : DrawnLog
-  pub is_drawn : IsDrawnOf text options.records.receives (greatest_c options.records.form) drawn
-  pub picture : IsPartDrawn drawn options.part before after
+  pub is_drawn : IsDrawnOf opened drawn
+  pub picture : IsPartDrawn drawn part before after
 
 -- an event is named that the log doesn't have, and the output got nothing
-pub record IsTextLacking (options : DrawLogOptions) (text : LogText) (before after : Option (List ℕ)) : Type 0 where
+pub record IsOpenedLacking (opened : OpenedLog) (part : LogPart) (before after : Option (List ℕ)) : Type 0 where
   pub drawn : DrawnLog
-  pub is_drawn : IsDrawnOf text options.records.receives (greatest_c options.records.form) drawn
-  pub absent : LacksNamed drawn options.part
+  pub is_drawn : IsDrawnOf opened drawn
+  pub absent : LacksNamed drawn part
   pub nothing : after ≡ before
 
 -- the input is a log of at most so many records, and it was drawn
 abbrev pub IsLogDrawnUpTo : (most : ℕ) → DrawLogOptions → (input before after : Option (List ℕ)) → Type 0
 IsLogDrawnUpTo most options input before after =
-    (text : LogText) × IsReadWhole options.records most input text × IsTextDrawn options (drawn_text options text) before after
+    (opened : OpenedLog) × IsOpened options.records most input opened × IsOpenedDrawn opened options.part before after
 
 -- the input is a log, and it was drawn
 abbrev pub IsLogDrawnWhole : DrawLogOptions → (input before after : Option (List ℕ)) → Type 0
@@ -101,17 +76,12 @@ IsLogDrawnWhole options input before after = IsLogDrawnUpTo MAX_CAPACITY options
 -- the input is a log, and wasn't drawn since it lacks an event that is named
 abbrev pub IsLogLacking : (most : ℕ) → DrawLogOptions → (input before after : Option (List ℕ)) → Type 0
 IsLogLacking most options input before after =
-    (text : LogText) × IsReadWhole options.records most input text × IsTextLacking options (drawn_text options text) before after
+    (opened : OpenedLog) × IsOpened options.records most input opened × IsOpenedLacking opened options.part before after
 
 -- the input is no log, and the output got the row by which an audit says why
 abbrev pub IsNotDrawn : (most : ℕ) → DrawLogOptions → (input before after : Option (List ℕ)) → Type 0
-IsNotDrawn most options input before after = IsAudited (reading_rules options) most [] input before after outcome.BadLog
-
--- a log that was read wasn't drawn for this fault, of which the status or the answer tells
-abbrev pub IsTextDrawnBut : CommandFault → DrawLogOptions → LogText → (before after : Option (List ℕ)) → Type 0
-IsTextDrawnBut stop.NoEvent options text before after = IsTextLacking options (drawn_text options text) before after
-IsTextDrawnBut stop.BadLog options text before after = IsTextAudited text (reading_rules options) [] before after outcome.BadLog
-IsTextDrawnBut _ options text before after = ⊥
+IsNotDrawn most options input before after =
+    (bad : BadInput) × ExplainsOpenFault options.records most input (fault.Bad bad) × Appends before after (bad_text bad)
 
 -- the log of at most so many records wasn't drawn for this fault, of which the status or the answer tells
 abbrev pub IsLogDrawnUpToBut : (most : ℕ) → CommandFault → DrawLogOptions → (input before after : Option (List ℕ)) → Type 0

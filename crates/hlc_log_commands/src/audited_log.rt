@@ -31,7 +31,6 @@ pub fn audit_log<I: Read + Drop, O: Write>(
 {
     let rules = AuditRules {
         records: options.records,
-        unsent_local: options.unsent_local,
         limit: options.limit,
         report: options.report,
     };

@@ -1,25 +1,18 @@
 // The picture of another system's log.
 
-ghost use Rattle.std.specs.Prelude.{◌≡◌, ◌↔◌, ◌*◌, ◌≤◌, All, IfErr, IsErrOf, IsTrue, OnOk, length};
-ghost use Rattle.hlc_stamp.specs.declared.limits.TheConstants.{MAX_CAPACITY, MAX_NODES};
-ghost use Rattle.hlc_log.specs.Events.{IsInRange, IsNumbered};
+ghost use Rattle.std.specs.Prelude.{◌≡◌, ◌↔◌, ◌≤◌, IfErr, IsErrOf, IsTrue, OnOk};
+ghost use Rattle.hlc_stamp.specs.declared.limits.TheConstants.{MAX_CAPACITY};
 ghost use Rattle.hlc_log_text.specs.ReadLog.{HasTooMany};
-ghost use Rattle.hlc_log_text.specs.declared.log_text.LogText.{LogText};
-ghost use Rattle.hlc_log_audit.specs.Lines.{LinesRise};
-ghost use Rattle.hlc_log_picture.specs.Drawn.{HaveNames};
 ghost use Rattle.hlc_command_line.specs.declared.line_order.LogPart.TheVariants.{Chain, Rows};
 ghost use Rattle.hlc_command_fault.specs.Fault.{IsOfAnswer, IsOfInput};
-ghost use Rattle.hlc_log_commands.specs.DrawnLog.{IsAbsent, IsFilledOf, IsLogDrawnBut, IsLogDrawnUpTo, IsLogDrawnUpToBut, IsLogDrawnWhole, IsMadeOf, IsPartDrawn, IsTextDrawn, IsTextDrawnBut, IsTextLacking, IsViewOf, LacksNamed, drawn_text, line_of_rows, reading_rules};
+ghost use Rattle.hlc_log_commands.specs.DrawnLog.{IsAbsent, IsLogDrawnBut, IsLogDrawnUpTo, IsLogDrawnUpToBut, IsLogDrawnWhole, IsOpenedDrawn, IsOpenedLacking, IsPartDrawn, IsViewOf, LacksNamed, line_of_rows};
 
 use hlc_command_fault::CommandFault;
 use hlc_command_line::{DrawLogOptions, LogPart, LogRows};
 use hlc_csv::RecordsFault;
-use hlc_log::{Log, causal_order};
-use hlc_log_audit::{AuditRules, take_unsent, tell_bad, tell_fault};
-use hlc_log_picture::{DrawFault, PicturedLog, View, draw, draw_chain, in_row_order};
-use hlc_log_report::OrderedLog;
-use hlc_log_text::{Labels, LogText, LogTextFault, Names, read_log};
-use hlc_stamp::{MAX_CAPACITY, MAX_NODES};
+use hlc_log_picture::{DrawFault, PicturedLog, View, draw, draw_chain, put_in_row_order};
+use hlc_open_log::{OpenFault, OpenLog, open_log, tell_bad};
+use hlc_stamp::MAX_CAPACITY;
 use std::alloc::Global;
 use std::io::{Read, Write};
 
@@ -112,106 +105,19 @@ fn draw_part<O: Write>(
     }
 }
 
-// Draws a log in order, if it has the events that are named.
-fn draw_ordered<O: Write>(
+// Draws a part of an opened log, if it has the events that are named; for this it puts the log in the order of the rows.
+fn draw_opened<O: Write>(
     alloc: Global,
-    log: OrderedLog,
-    nodes: &Names,
-    labels: &Labels,
-    messages: u32,
-    options: DrawLogOptions,
+    log: &mut OpenLog,
+    part: LogPart,
     writer: &mut O,
 ) -> Result<(), DrawFault>
-    requires numbered { All (IsNumbered messages) log.events }
-    requires in_range { All IsInRange log.events }
-    requires few { length nodes.now ≤ MAX_NODES }
-    requires named { HaveNames log.events nodes.now }
-    requires receives { log.receives ≡ options.records.receives }
-    ensures done { OnOk result ((text : LogText) → IsFilledOf text log.events nodes.now labels.now →
-        IsTextDrawn options text (O.contents writer.old) (O.contents writer.new)) }
-    ensures without { IsErrOf result DrawFault.NoEvent → (text : LogText) → IsFilledOf text log.events nodes.now labels.now →
-        IsTextLacking options text (O.contents writer.old) (O.contents writer.new) }
+    ensures done { OnOk result (IsOpenedDrawn log.old part (O.contents writer.old) (O.contents writer.new)) }
+    ensures without { IsErrOf result DrawFault.NoEvent → IsOpenedLacking log.old part (O.contents writer.old) (O.contents writer.new) }
 {
-    let log = in_row_order(alloc, log, messages)?;
-    let pictured = PicturedLog::new(alloc, &log, nodes, labels, options.records.form.full())?;
-    draw_part(alloc, &pictured, options.part, writer)
-}
-
-// The rules of an audit that reads the log as it is to be drawn.
-fn reading_rules(options: DrawLogOptions) -> AuditRules
-    ensures { result ≡ reading_rules options }
-{
-    AuditRules {
-        records: options.records,
-        unsent_local: options.unsent_local,
-        limit: None,
-        report: false,
-    }
-}
-
-// Draws the events of a log that was read, to which its names and its labels are lent: so few things end with it.
-fn draw_events<O: Write>(
-    alloc: Global,
-    mut log: Log,
-    nodes: &Names,
-    labels: &Labels,
-    messages: u32,
-    options: DrawLogOptions,
-    writer: &mut O,
-) -> Result<(), CommandFault>
-    requires numbered { All (IsNumbered messages) log.events }
-    requires in_range { All IsInRange log.events }
-    requires rise { LinesRise log.events }
-    requires few { length nodes.now ≤ MAX_NODES }
-    requires named { HaveNames log.events nodes.now }
-    requires messages { messages ≤ 2 * MAX_CAPACITY }
-    ensures done { OnOk result ((text : LogText) → IsMadeOf text log.events nodes.now labels.now →
-        IsTextDrawn options (drawn_text options text) (O.contents writer.old) (O.contents writer.new)) }
-    ensures told { IfErr result (λ fault. IsOfAnswer fault → (text : LogText) → IsMadeOf text log.events nodes.now labels.now →
-        IsTextDrawnBut fault options text (O.contents writer.old) (O.contents writer.new)) }
-    ensures read { IfErr result (λ fault. ¬ IsOfInput fault) }
-{
-    take_unsent(alloc, &mut log, messages, reading_rules(options))?;
-    match causal_order(alloc, &log, messages) {
-        Ok(order) => {
-            let log = OrderedLog::new(alloc, log, order, messages, options.records.receives)?;
-            draw_ordered(alloc, log, nodes, labels, messages, options, writer)?;
-            Ok(())
-        }
-        Err(fault) => {
-            tell_fault(alloc, &log, fault, writer)?;
-            Err(CommandFault::BadLog)
-        }
-    }
-}
-
-// Draws a log that was read.
-fn draw_text<O: Write>(
-    alloc: Global,
-    text: LogText,
-    options: DrawLogOptions,
-    writer: &mut O,
-) -> Result<(), CommandFault>
-    requires numbered { All (IsNumbered text.messages) text.log.events }
-    requires in_range { All IsInRange text.log.events }
-    requires rise { LinesRise text.log.events }
-    requires few { length text.nodes ≤ MAX_NODES }
-    requires named { HaveNames text.log.events text.nodes }
-    requires messages { text.messages ≤ 2 * MAX_CAPACITY }
-    ensures done { OnOk result (IsTextDrawn options (drawn_text options text) (O.contents writer.old) (O.contents writer.new)) }
-    ensures told { IfErr result (λ fault. IsOfAnswer fault → IsTextDrawnBut fault options text
-        (O.contents writer.old) (O.contents writer.new)) }
-    ensures read { IfErr result (λ fault. ¬ IsOfInput fault) }
-{
-    let LogText {
-        log,
-        nodes,
-        messages,
-        labels,
-        ..
-    } = text;
-    let messages = messages as u32;
-    draw_events(alloc, log, &nodes, &labels, messages, options, writer)
+    put_in_row_order(alloc, log)?;
+    let pictured = PicturedLog::new(alloc, log)?;
+    draw_part(alloc, &pictured, part, writer)
 }
 
 /// Draws a part of a log of at most so many records, as `draw_log` does.
@@ -229,15 +135,18 @@ pub fn draw_log_up_to<I: Read + Drop, O: Write>(
     ensures unread { IfErr result (λ fault. IsOfInput fault → writer.new ≡ writer.old) }
     ensures too_long { IsErrOf result (CommandFault.Records RecordsFault.TooLong) → HasTooMany options.records most (I.remaining reader) }
 {
-    match read_log(alloc, reader, options.records, most) {
-        Ok(text) => draw_text(alloc, text, options, writer),
-        Err(LogTextFault::Bad(bad)) => {
-            tell_bad(alloc, bad.line, bad.why.word(), writer)?;
+    match open_log(alloc, reader, options.records, most) {
+        Ok(mut log) => {
+            draw_opened(alloc, &mut log, options.part, writer)?;
+            Ok(())
+        }
+        Err(OpenFault::Bad(bad)) => {
+            tell_bad(alloc, bad, writer)?;
             Err(CommandFault::BadLog)
         }
-        Err(LogTextFault::Read) => Err(CommandFault::Records(RecordsFault::Read)),
-        Err(LogTextFault::TooLong) => Err(CommandFault::Records(RecordsFault::TooLong)),
-        Err(LogTextFault::Memory) => Err(CommandFault::Records(RecordsFault::Memory)),
+        Err(OpenFault::Read) => Err(CommandFault::Records(RecordsFault::Read)),
+        Err(OpenFault::TooLong) => Err(CommandFault::Records(RecordsFault::TooLong)),
+        Err(OpenFault::Memory) => Err(CommandFault::Records(RecordsFault::Memory)),
     }
 }
 

@@ -16,10 +16,11 @@ use Rattle.hlc_log.specs.Faults.{IsFaultOf}
 use Rattle.hlc_log.specs.Unsent.{with_unsent}
 use Rattle.hlc_log.proofs.Agreement.{faults_leave_no_order}
 use Rattle.hlc_log.proofs.UnsentEvents.{nothing_taken}
-use Rattle.hlc_log_text.specs.StampForms.{greatest_c}
 use Rattle.hlc_log_text.specs.declared.log_text.LogText.{LogText}
 use Rattle.hlc_log_text.specs.declared.question.LogQuestion.{LogQuestion}
-use Rattle.hlc_log_audit.specs.Audit.{IsTextAudited, IsTold, all_asked, counted_row, missing_rows, unread_row, unstamped_row}
+use Rattle.hlc_open_log.proofs.OpenedLogs.{no_memory}
+use Rattle.hlc_log_audit.specs.Audit.{IsTextAudited, IsTold, all_asked, counted_row, missing_rows, unread_row, unsent_row, unstamped_row}
+use Rattle.hlc_log_audit.specs.Laws.{IsCleanReport}
 use Rattle.hlc_log_audit.specs.Report.{IsReport}
 use Rattle.hlc_log_audit.specs.declared.outcome.Outcome.{Outcome}
 use Rattle.hlc_log_audit.specs.declared.outcome.Outcome.TheVariants as outcome
@@ -112,48 +113,53 @@ module _ (h : History) (clocked : IsClocked h) (report : Bool) (text : LogText) 
   told_sound before after result told =
       let rules = plain_rules report in
       let alone = logs_tell_events_alone h text clocked read in
-      let log = told.log in
+      let opened = told.opened in
+      let is = told.is_opened in
+      let in_order = is.ordered.in_order in
+      let log = opened.log in
       let filled : AreFilled text.log.events log.events =
-      subst (λ (events : List LogEvent). AreFilled events log.events) (sym taken) told.events in
+      subst (λ (events : List LogEvent). AreFilled events log.events) (sym taken) is.ordered.filled in
       let events : log.events ≡ text.log.events =
       all_told_filled text.log.events log.events (λ e lt. logs_tell_stamps h text e clocked read lt) filled in
       let told_each : (k : ℕ) → k < length log.order → stamp_told log k ≡ true =
-      stamps_told h.events log (subst (IsHistoryLog h.events) (sym events) is_history) told.in_order.causal in
-      let clean = logs_audit_clean h text log clocked read told.receives events told.in_order in
+      stamps_told h.events log (subst (IsHistoryLog h.events) (sym events) is_history) in_order.causal in
+      let clean = logs_audit_clean h text log clocked read is.ordered.receives events in_order in
       let same = clean.0 in
       let right = clean.1 in
-      let none_asked : all_asked text.questions.items [] ≡ [] = ap (λ (questions : List LogQuestion). all_asked questions []) alone.1 in
-      let whole = told_report text.nodes text.labels log rules None (all_asked text.questions.items []) told.rows none_asked told.told in
-      let is_report : IsReport text.nodes log (greatest_c rules.records.form) told.rows =
-      subst (IsReport text.nodes log (greatest_c rules.records.form))
+      let none_asked : all_asked opened.questions [] ≡ [] = ap (λ (questions : List LogQuestion). all_asked questions []) (is.questions ∙ alone.1) in
+      let whole = told_report opened rules (all_asked opened.questions []) told.rows none_asked told.told in
+      let is_report : IsReport opened.nodes log opened.full told.rows =
+      subst (IsReport opened.nodes log opened.full)
       (sym (
       whole.4
+      ∙ ap (λ (unsent : Option ℕ). ((whole.0 ++ unsent_row unsent) ++ missing_rows log.events) ++ whole.1) is.ordered.taken
       ∙ ap (λ (missing : List Fields). ((whole.0 ++ []) ++ missing) ++ whole.1) (ap missing_rows events ∙ nothing_missing)
       ∙ ap (λ (over : List Fields). ((whole.0 ++ []) ++ []) ++ over) whole.3
       ∙ append-nil ((whole.0 ++ []) ++ []) ∙ append-nil (whole.0 ++ []) ∙ append-nil whole.0
       )) whole.2 in
       record {
-        sound = least_stamps_are_sound log rules result told.in_order same right (λ beyond. beyond) told.outcome;
+        sound = least_stamps_are_sound log rules result in_order same right (λ beyond. beyond) told.outcome;
         text = text;
         read = read;
         log = log;
-        receives = told.receives;
+        receives = is.ordered.receives;
         events = events;
-        in_order = told.in_order;
+        in_order = in_order;
         rows = told.rows;
         one_each = ap (λ (all : List LogEvent). length all) events ∙ alone.0;
-        all_told = all_counted (stamp_told log) (length log.order) told_each ∙ order_len log.events log.order told.in_order.causal;
+        all_told = all_counted (stamp_told log) (length log.order) told_each ∙ order_len log.events log.order in_order.causal;
         clean =
-            least_stamps_report_clean text.nodes log (greatest_c rules.records.form) told.rows told.in_order same right is_report;
+            subst (λ (nodes : List (List ℕ)). IsCleanReport nodes log told.rows) is.nodes
+            (least_stamps_report_clean opened.nodes log opened.full told.rows in_order same right is_report);
         written = told.written;
       }
 
   no_fault : (before after : Option (List ℕ)) → IsTextAudited text (plain_rules report) [] before after outcome.BadLog → ⊥
-  no_fault before after (fault, shown) =
+  no_fault before after (bad, none, shown) =
       let order = logs_have_an_order h text clocked read in
       let log = order.0 in
-      let is_fault : IsFaultOf log.events fault = subst (λ (events : List LogEvent). IsFaultOf events fault) (sym (order.2 ∙ taken)) shown.is_fault in
-      faults_leave_no_order log.events fault is_fault shown.no_memory order.3.messages log.order order.3.causal
+      let is_fault = subst (λ (events : List LogEvent). IsFaultOf events none.fault) (sym (order.2 ∙ taken)) none.is_fault in
+      faults_leave_no_order log.events none.fault is_fault (no_memory none.fault bad.why none.reason) order.3.messages log.order order.3.causal
 
   audited_sound : (before after : Option (List ℕ)) (result : Outcome) → IsTextAudited text (plain_rules report) [] before after result
       → IsFoundSound h before after result

@@ -20,7 +20,7 @@ use Rattle.hlc_history_log.specs.LogRows.{log_text}
 
 -- an audit of stamps of two numbers, in which no drift is too great
 abbrev pub plain_rules : (report : Bool) → AuditRules
-plain_rules report = record { records = exact_rules Pair; unsent_local = false; limit = None; report = report }
+plain_rules report = record { records = exact_rules Pair; limit = None; report = report }
 
 -- the audit found nothing wrong with a history, and the writer got the report on its log that says so: the count of its events, all of them
 -- told and least, its nodes, its messages and its skews

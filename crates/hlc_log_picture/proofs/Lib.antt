@@ -1,4 +1,3 @@
-mod FewerNodes
 mod Judging
 mod Legends
 mod PictureLaws

@@ -1,6 +1,5 @@
 -- The picture of a log.
-use Rattle.std.specs.Prelude.{◌≡◌, ℕ, ◌<◌, All, List, Option, false, length}
-use Rattle.hlc_causality.specs.declared.receives.Receives.{Receives}
+use Rattle.std.specs.Prelude.{◌≡◌, ℕ, List, Option, false, length}
 use Rattle.hlc_causality.specs.declared.receives.Receives.TheVariants.{Tick}
 use Rattle.hlc_causes.specs.declared.answers.Finding.{Finding}
 use Rattle.hlc_diagram.specs.Content.{Content}
@@ -9,15 +8,14 @@ use Rattle.hlc_diagram.specs.ChainPicture.{ChainPicture, chain_picture_of}
 use Rattle.hlc_diagram.specs.Picture.{Picture, picture_of}
 use Rattle.hlc_svg.specs.declared.numbers.FirstDigits.{FirstDigits}
 use Rattle.hlc_diagram.specs.declared.view.View.{View}
-use Rattle.hlc_execution.specs.Execution.{StoredExecution, clock_of}
 use Rattle.hlc_stamp.specs.declared.id.EventId.{EventId}
 use Rattle.hlc_log.specs.CausalOrder.{place_at}
 use Rattle.hlc_log.specs.OrderSkeleton.{rules_in}
 use Rattle.hlc_log.specs.declared.log_event.LogEvent.{LogEvent}
-use Rattle.hlc_log_report.specs.InOrder.{AreFilled, IsInOrder, LogInOrder, clocks_of, event_in_order, line_in, skeleton_of}
+use Rattle.hlc_log_report.specs.InOrder.{IsInOrder, LogInOrder, event_in_order, line_in, skeleton_of}
 use Rattle.hlc_log_text.specs.Labels.{label_at}
 use Rattle.hlc_log_text.specs.LogText.{name_of}
-use Rattle.hlc_log_text.specs.declared.log_text.LogText.{LogText}
+use Rattle.hlc_open_log.specs.Opened.{OpenedLog}
 use Rattle.hlc_log_picture.specs.Cells.{cell_text, cell_width, fact_text, heading_at}
 use Rattle.hlc_log_picture.specs.Judged.{AreEventFindings, event_finding_at}
 use Rattle.hlc_log_picture.specs.Legend.{legend_text}
@@ -34,21 +32,10 @@ pub record DrawnLog : Type 0 where
   pub labels : List (ℕ × List ℕ)
   pub findings : List EventFinding
 
--- each event is of a node that has a name
-abbrev pub HaveNames : List LogEvent → (nodes : List (List ℕ)) → Type 0
-HaveNames events nodes = All (λ event. event.node.0 < length nodes) events
-
--- an execution has the events of a log in order as clocks read them, and its least stamps, but only so many nodes
-pub record HasLanes (log : LogInOrder) (nodes : ℕ) (execution : StoredExecution) : Type 0 where
-  pub clocks_are : clock_of execution ≡ clocks_of log
-  pub nodes_are : execution.nodes ≡ nodes
-  pub events_are : execution.events ≡ skeleton_of log
-  pub stamps_are : execution.stamps ≡ log.least
-
 -- the parts that a log to be drawn is kept in agree
-pub record ArePictured (drawn : DrawnLog) (execution : StoredExecution) (digits : FirstDigits) : Type 0 where
+pub record ArePictured (drawn : DrawnLog) (digits : FirstDigits) : Type 0 where
   pub ordered : IsInOrder drawn.log
-  pub lanes : HasLanes drawn.log (length drawn.nodes) execution
+  pub lanes : drawn.log.nodes ≡ length drawn.nodes
   pub judged : length drawn.findings ≡ length drawn.log.events
   pub first : digits ≡ first_digits_of drawn.log
 
@@ -90,13 +77,13 @@ drawn_log drawn view = picture_of (content_of drawn) view
 abbrev pub drawn_log_chain : DrawnLog → (row : EventId) → ChainPicture
 drawn_log_chain drawn row = chain_picture_of (content_of drawn) row
 
--- a log that was read is drawn, by what its clocks do at receives: its events in a causal order, which is that of their least stamps if
--- receives tick, with its names, its labels, and a finding on each; those without a stamp have the one that they are given
-pub record IsDrawnOf (text : LogText) (receives : Receives) (full : ℕ) (drawn : DrawnLog) : Type 0 where
-  pub events : AreFilled text.log.events drawn.log.events
-  pub nodes : drawn.nodes ≡ text.nodes
-  pub labels : drawn.labels ≡ text.labels
-  pub receives_are : drawn.log.receives ≡ receives
+-- an opened log is drawn: its events in a causal order, which is that of their least stamps if receives tick, with its names, its labels, and a finding
+-- on each
+pub record IsDrawnOf (opened : OpenedLog) (drawn : DrawnLog) : Type 0 where
+  pub receives : drawn.log.receives ≡ opened.log.receives
+  pub events : drawn.log.events ≡ opened.log.events
+  pub nodes : drawn.nodes ≡ opened.nodes
+  pub labels : drawn.labels ≡ opened.labels
   pub in_order : IsInOrder drawn.log
-  pub by_stamp : receives ≡ Tick → IsInStampOrder drawn.log
-  pub judged : AreEventFindings drawn.log full drawn.findings
+  pub by_stamp : opened.log.receives ≡ Tick → IsInStampOrder drawn.log
+  pub judged : AreEventFindings drawn.log opened.full drawn.findings

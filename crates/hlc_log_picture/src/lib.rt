@@ -5,11 +5,11 @@
 //!
 //! It is for whoever has a log that `hlc audit` finds broken, and wants to see what led there.
 //!
-//! - `PicturedLog` is what the diagram shows of a log in order (`hlc_log_report`), with the names of its nodes and its labels.
+//! - `PicturedLog` is what the diagram shows of an opened log (`hlc_open_log`), with the names of its nodes and its labels.
 //! - `draw` writes the picture, or a part of it; `draw_chain` that of a chain alone.
 //! - `EventFinding` is what the picture tells of a claimed stamp; `form_of` says which form a dot has for it.
-//! - `in_row_order` puts a log in the order of the rows: where receives tick that of `in_stamp_order`, its least stamps and then its nodes,
-//!   of which there is only one.
+//! - `put_in_row_order` puts a log in the order of the rows: where receives tick that of `put_in_stamp_order`, its least stamps and then
+//!   its nodes, of which there is only one.
 //! - `laws` says that forms are verdicts, that rings are causes, that no digit is lost, and that the laws of diagrams hold.
 //!
 //! Stamps and readings of 19 digits hide that a clock is ahead. So the first digits that the `l` of all claimed stamps and all readings
@@ -21,23 +21,13 @@
 //! A first caller, proved in `hlc_log_examples`: the picture of a log.
 //!
 //! ```rust
-//! pub fn draw_log(
-//!     alloc: Global,
-//!     log: OrderedLog,
-//!     nodes: &Names,
-//!     labels: &Labels,
-//!     messages: u32,
-//! ) -> Result<Vec<u8>, DrawFault>
-//!     requires numbered { All (IsNumbered messages) log.events }
-//!     requires in_range { All IsInRange log.events }
-//!     requires few { length nodes.now ≤ MAX_NODES }
-//!     requires named { HaveNames log.events nodes.now }
-//!     ensures { IfOk result (λ svg. (drawn : DrawnLog) × (drawn.log.events ≡ log.events)
-//!         × (log.receives ≡ Receives.Tick → IsInStampOrder drawn.log)
+//! pub fn draw_log(alloc: Global, log: &mut OpenLog) -> Result<Vec<u8>, DrawFault>
+//!     ensures { IfOk result (λ svg. (drawn : DrawnLog) × (drawn.log.events ≡ log.old.log.events)
+//!         × (log.old.log.receives ≡ Receives.Tick → IsInStampOrder drawn.log)
 //!         × (svg.items ≡ picture_text (drawn_log drawn (view_between None None None)))) }
 //! {
-//!     let log = in_row_order(alloc, log, messages)?;
-//!     let pictured = PicturedLog::new(alloc, &log, nodes, labels, u32::MAX)?;
+//!     put_in_row_order(alloc, log)?;
+//!     let pictured = PicturedLog::new(alloc, log)?;
 //!     let mut svg = Vec::new(alloc);
 //!     draw(alloc, &pictured, View::between(None, None, None), &mut svg)?;
 //!     Ok(svg)
@@ -48,7 +38,6 @@
 mod cells;
 mod drawing;
 mod event_finding;
-mod lanes;
 pub mod laws;
 mod look;
 mod pictured_log;
@@ -60,4 +49,4 @@ pub use event_finding::EventFinding;
 pub use hlc_diagram::{DrawFault, MOST_EVENTS, View};
 pub use look::form_of;
 pub use pictured_log::PicturedLog;
-pub use stamp_order::{in_row_order, in_stamp_order};
+pub use stamp_order::{put_in_row_order, put_in_stamp_order};

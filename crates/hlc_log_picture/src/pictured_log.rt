@@ -1,11 +1,10 @@
-ghost use Rattle.std.specs.Prelude.{◌≡◌, ◌<◌, ◌≤◌, IfOk, length, option_map};
+ghost use Rattle.std.specs.Prelude.{◌≡◌, ◌<◌, IfOk, length, option_map};
 ghost use Rattle.hlc_log_report.specs.InOrder.{IsInOrder, line_in};
-ghost use Rattle.hlc_log_picture.specs.Drawn.{HaveNames, finding_of_row, label_of_row};
+ghost use Rattle.hlc_log_picture.specs.Drawn.{finding_of_row, label_of_row};
 ghost use Rattle.hlc_log_picture.specs.Judged.{AreEventFindings};
 
 use crate::cells::{LEGEND, NAME_ROOM, cell_width, put_cell, put_fact, put_heading};
 use crate::event_finding::{EventFinding, findings};
-use crate::lanes::lanes;
 use crate::look::look_of;
 use crate::shared_digits::first_digits;
 use hlc_causes::Finding;
@@ -13,7 +12,8 @@ use hlc_diagram::{FirstDigits, Look, Subject, View, put_label};
 use hlc_execution::Execution;
 use hlc_log_report::OrderedLog;
 use hlc_log_text::{Labels, Names, node_name};
-use hlc_stamp::{EventId, MAX_NODES, NodeId};
+use hlc_open_log::OpenLog;
+use hlc_stamp::{EventId, NodeId};
 use std::alloc::{AllocError, Global};
 use std::marker::Model;
 
@@ -24,8 +24,6 @@ pub struct PicturedLog<'a> {
     log: &'a OrderedLog,
     nodes: &'a Names,
     labels: &'a Labels,
-    // The log's execution, with no more nodes than have names.
-    lanes: Execution,
     // By position.
     findings: Vec<EventFinding>,
     // They stand in the headings.
@@ -40,38 +38,28 @@ impl<'a> Model for PicturedLog<'a> {
     ghost view = { λ p. record { log = p.log.now; nodes = p.nodes.now; labels = p.labels.now; findings = p.findings.items } };
 
     ghost invariant = { λ p. ArePictured
-        (record { log = p.log.now; nodes = p.nodes.now; labels = p.labels.now; findings = p.findings.items }) p.lanes p.first };
+        (record { log = p.log.now; nodes = p.nodes.now; labels = p.labels.now; findings = p.findings.items }) p.first };
 }
 
 impl<'a> PicturedLog<'a> {
-    /// A log in order with the names of its nodes and the labels of its events. `full` is the greatest `c` that the form of its stamps can
-    /// write.
+    /// What a diagram shows of an opened log.
     ///
-    /// It takes some 80 bytes for each event.
-    pub fn new(
-        alloc: Global,
-        log: &'a OrderedLog,
-        nodes: &'a Names,
-        labels: &'a Labels,
-        full: u32,
-    ) -> Result<PicturedLog<'a>, AllocError>
-        requires few { length nodes.now ≤ MAX_NODES }
-        requires named { HaveNames log.now.events nodes.now }
-        ensures log { IfOk result (λ drawn. drawn.log ≡ log.now) }
-        ensures nodes { IfOk result (λ drawn. drawn.nodes ≡ nodes.now) }
-        ensures labels { IfOk result (λ drawn. drawn.labels ≡ labels.now) }
-        ensures judged { IfOk result (λ drawn. AreEventFindings log.now full drawn.findings) }
+    /// It takes 32 bytes for each event.
+    pub fn new(alloc: Global, log: &'a OpenLog) -> Result<PicturedLog<'a>, AllocError>
+        ensures log { IfOk result (λ drawn. drawn.log ≡ log.now.log) }
+        ensures nodes { IfOk result (λ drawn. drawn.nodes ≡ log.now.nodes) }
+        ensures labels { IfOk result (λ drawn. drawn.labels ≡ log.now.labels) }
+        ensures judged { IfOk result (λ drawn. AreEventFindings log.now.log log.now.full drawn.findings) }
+        ensures ordered { IfOk result (λ drawn. IsInOrder drawn.log) }
     {
-        let findings = findings(alloc, log, full)?;
-        let lanes = lanes(alloc, log, nodes.len() as u16)?;
-        let _ordered = log.len();
+        let ordered = log.ordered();
+        let findings = findings(alloc, ordered, log.full())?;
         Ok(PicturedLog {
-            log,
-            nodes,
-            labels,
-            lanes,
+            log: ordered,
+            nodes: log.nodes(),
+            labels: log.labels(),
             findings,
-            first: first_digits(log),
+            first: first_digits(ordered),
         })
     }
 
@@ -174,7 +162,7 @@ impl<'a> Subject for PicturedLog<'a> {
     ghost content = { λ drawn. content_of drawn };
 
     fn execution(&self) -> &Execution {
-        &self.lanes
+        self.log.execution()
     }
 
     #[tactic(auto, using(crate::proofs::Legends::legend_is))]

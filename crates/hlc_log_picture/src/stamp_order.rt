@@ -1,14 +1,15 @@
 // The order of a log's rows.
 
-ghost use Rattle.std.specs.Prelude.{◌≡◌, ◌<◌, All, IfOk, length, map};
+ghost use Rattle.std.specs.Prelude.{◌≡◌, ◌<◌, IfOk, OnOk, length, map};
 ghost use Rattle.hlc_stamp.specs.Ids.{places_of};
 ghost use Rattle.hlc_log.specs.CausalOrder.{IsCausalOrder};
-ghost use Rattle.hlc_log.specs.Events.{IsInRange, IsNumbered};
 ghost use Rattle.hlc_log_report.specs.InOrder.{IsInOrder};
+ghost use Rattle.hlc_open_log.specs.Opened.{IsReordered};
 ghost use Rattle.hlc_log_picture.specs.StampOrder.{AreRanked, AreRows, IsInStampOrder, IsRow};
 
 use hlc_causality::Receives;
 use hlc_log_report::OrderedLog;
+use hlc_open_log::OpenLog;
 use hlc_stamp::laws::tests_are_the_order;
 use hlc_stamp::{EventId, Rank};
 use std::alloc::{AllocError, Global};
@@ -66,43 +67,27 @@ fn stamp_order(alloc: Global, log: &OrderedLog) -> Result<Vec<EventId>, AllocErr
     Ok(order)
 }
 
-/// The log with its events in the order of their least stamps and, if these are equal, of their nodes. There is only one such order,
-/// whatever order the log had. It is causal where receives tick: one that merges may have the stamp of its send. Messages have numbers below `messages`.
+/// Puts the events of a log in the order of their least stamps and, if these are equal, of their nodes. There is only one such order,
+/// whatever order the log had. It is causal where receives tick: one that merges may have the stamp of its send.
 ///
-/// It sorts the events, and for a while takes 28 bytes of memory for each, besides what `OrderedLog::new` takes.
-pub fn in_stamp_order(
-    alloc: Global,
-    log: OrderedLog,
-    messages: u32,
-) -> Result<OrderedLog, AllocError>
-    requires receives { log.receives ≡ Receives.Tick }
-    requires numbered { All (IsNumbered messages) log.events }
-    requires in_range { All IsInRange log.events }
-    ensures receives { IfOk result (λ ordered. ordered.receives ≡ Receives.Tick) }
-    ensures events { IfOk result (λ ordered. ordered.events ≡ log.events) }
-    ensures ordered { IfOk result IsInOrder }
-    ensures by_stamp { IfOk result IsInStampOrder }
+/// It sorts the events, and for a while takes 28 bytes of memory for each, besides what `OrderedLog::reorder` takes.
+pub fn put_in_stamp_order(alloc: Global, log: &mut OpenLog) -> Result<(), AllocError>
+    requires { log.old.log.receives ≡ Receives.Tick }
+    ensures same { IsReordered log.old log.new }
+    ensures by_stamp { OnOk result (IsInStampOrder log.new.log) }
 {
-    let _ordered = log.len();
-    let order = stamp_order(alloc, &log)?;
-    let ordered = OrderedLog::new(alloc, log.into_log(), order, messages, Receives::Tick)?;
-    Ok(ordered)
+    let order = stamp_order(alloc, log.ordered())?;
+    log.reorder(alloc, order)
 }
 
-/// The log with its events in the order of the rows of its picture: that of `in_stamp_order` where receives tick, else the causal order
-/// that it has.
-pub fn in_row_order(alloc: Global, log: OrderedLog, messages: u32) -> Result<OrderedLog, AllocError>
-    requires numbered { All (IsNumbered messages) log.events }
-    requires in_range { All IsInRange log.events }
-    ensures receives { IfOk result (λ ordered. ordered.receives ≡ log.receives) }
-    ensures events { IfOk result (λ ordered. ordered.events ≡ log.events) }
-    ensures ordered { IfOk result IsInOrder }
-    ensures by_stamp { log.receives ≡ Receives.Tick → IfOk result IsInStampOrder }
+/// Puts the events of a log in the order of the rows of its picture: that of `put_in_stamp_order` where receives tick, else the causal order that it
+/// has.
+pub fn put_in_row_order(alloc: Global, log: &mut OpenLog) -> Result<(), AllocError>
+    ensures same { IsReordered log.old log.new }
+    ensures by_stamp { OnOk result (log.old.log.receives ≡ Receives.Tick → IsInStampOrder log.new.log) }
 {
-    let _ordered = log.len();
-    let receives = log.execution().receives();
-    match receives {
-        Receives::Tick => in_stamp_order(alloc, log, messages),
-        Receives::Merge | Receives::MergeClock => Ok(log),
+    match log.ordered().execution().receives() {
+        Receives::Tick => put_in_stamp_order(alloc, log),
+        Receives::Merge | Receives::MergeClock => Ok(()),
     }
 }

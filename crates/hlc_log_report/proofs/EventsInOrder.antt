@@ -47,6 +47,8 @@ pub parts_in_order : (log : StoredLog) (order positions : List EventId) (executi
     → IsInOrder (log_in_order log order execution)
 parts_in_order log order positions execution parts = record {
   few = parts.few;
+  few_nodes = parts.few_nodes;
+  of_nodes = parts.of_nodes;
   in_range = parts.in_range;
   messages = parts.messages;
   causal = parts.causal;

@@ -19,7 +19,7 @@ use Rattle.hlc_log.specs.Unsent.{is_send}
 use Rattle.hlc_log.specs.declared.log_event.LogEvent.{LogEvent}
 use Rattle.hlc_log.specs.declared.log_event.LogKind.{LogKind}
 use Rattle.hlc_log.specs.declared.log_event.LogKind.TheVariants as kind
-use Rattle.hlc_log_report.specs.InOrder.{AreFilled, IsExecutionOf, filled_event}
+use Rattle.hlc_log_report.specs.InOrder.{AreFilled, AreOfNodes, IsExecutionOf, filled_event}
 
 -- a test finds the same place in lists that it can't tell apart
 module _ {X : Type 0} (p : X → Bool) (xs ys : List X) (d : X) (size : length ys ≡ length xs) (same : (k : ℕ) → p (get_or ys k d) ≡ p (get_or xs k d)) where
@@ -177,6 +177,12 @@ module _ (events filled : List LogEvent) (are : AreFilled events filled) where
     all = λ e lt. let size = are.one_each in whole.all e (omega arith);
   }
 
+  pub filled_of_nodes : (nodes : ℕ) → AreOfNodes nodes events → AreOfNodes nodes filled
+  filled_of_nodes nodes of_nodes = All-from_get_or (λ (event : LogEvent). event.node.0 < nodes) filled no_event (λ e lt.
+      let size = are.one_each in
+      subst (λ (n : ℕ). n < nodes) (sym (filled_node e))
+      (All-get_or (λ (event : LogEvent). event.node.0 < nodes) events e no_event (omega arith) of_nodes))
+
   module _ (ranges : All IsInRange events) where
     pub filled_in_range : All IsInRange filled
     filled_in_range = All-from_get_or IsInRange filled no_event (λ e lt.
@@ -209,7 +215,6 @@ module _ (events filled : List LogEvent) (are : AreFilled events filled) where
     -- an execution of the events is one of the filled ones
     pub filled_execution : (order : List ℕ) (execution : StoredExecution) → IsExecutionOf events order execution → IsExecutionOf filled order execution
     filled_execution order execution is = record {
-      nodes = is.nodes;
       events_are = is.events_are ∙ sym (filled_skeleton order);
       clocks_are = is.clocks_are ∙ sym (filled_clocks execution.rules.receives order);
       least = is.least;

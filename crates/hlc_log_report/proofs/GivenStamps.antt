@@ -56,10 +56,10 @@ seen_like claimed others n within size same (Some e) (Some p) d lt = elim (cases
   | inr differ ↦ get_or-set_other claimed e d p zero_pair differ ∙ same d lt ∙ sym (get_or-set_other others e d p zero_pair differ)
 ]
 
-module _ (receives : Receives) (order : List ℕ) (least : List Pair) where
+module _ (nodes : ℕ) (receives : Receives) (order : List ℕ) (least : List Pair) where
   -- events in the order
   abbrev pub in_order : List LogEvent → LogInOrder
-  in_order events = record { receives = receives; events = events; order = order; least = least }
+  in_order events = record { nodes = nodes; receives = receives; events = events; order = order; least = least }
 
   length-clocks : (events : List LogEvent) → IsCausalOrder events order → length (clocks_of (in_order events)) ≡ length order
   length-clocks events whole = length-clocks_of (in_order events) ∙ length-skeleton_in events order whole

@@ -1,11 +1,13 @@
 pub mod CleanLogs
 pub mod Counting
 pub mod EventsInOrder
+mod Executions
 pub mod Filled
 pub mod Found
 pub mod GivenStamps
 mod MessageCounting
 mod MoreMessages
+mod OtherOrders
 pub mod Ordering
 pub mod Rearranged
 pub mod ReorderedTraces

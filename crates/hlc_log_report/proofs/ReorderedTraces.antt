@@ -451,6 +451,27 @@ pub reordering_keeps_skews : ReorderingKeepsSkews
 reordering_keeps_skews s t to back h told other_told same_told a b c d from_node to_node answer is =
     named_skew_kept s t to back h told other_told same_told a b c d from_node to_node answer is
 
+-- what an event is given depends on what those before it claim
+module _ (log other : LogInOrder) (to back : ℕ → ℕ) (clocks : IsClockReordering (clocks_of log) (clocks_of other) to back) (k : ℕ)
+    (exists : k < length (clocks_of log)) (carried : carried_of other (to k) ≡ carried_of log k)
+    (before : (d : ℕ) → d < k → pair_at (claimed_of log) d ≡ pair_at (claimed_of other) (to d)) where
+  pub given_alike : given_at (clocks_of other) (seen_of other (to k)) (to k) ≡ given_at (clocks_of log) (seen_of log k) k
+  given_alike =
+      let t = clocks_of log in
+      let u = clocks_of other in
+      let shown : k < length (clock_skeleton t) = omega (arith, exists, skeleton_size t) in
+      let send = send_of (clock_skeleton t) k in
+      let told = carried_of log k in
+      given_moved t u (seen_of log k) (seen_of other (to k)) to back clocks k exists
+      (λ d direct.
+      let less = direct_earlier (clock_skeleton t) d k direct in
+      same_seen t u (claimed_of log) (claimed_of other) to back clocks.links (length-claimed_of log ∙ sym (length-clocks_of log))
+      (length-claimed_of other ∙ sym (length-clocks_of other)) send told
+      (send_exists (clock_skeleton t) (clock_skeleton u) to back clocks.links k shown) d (omega arith) (before d less)
+      ∙ ap (λ (o : Option ℕ). pair_at (seen_pairs (claimed_of other) o told) (to d))
+      (sym (send_moved (clock_skeleton t) (clock_skeleton u) to back clocks.links k shown))
+      ∙ ap (λ (c : Option Pair). pair_at (seen_pairs (claimed_of other) (send_of (clock_skeleton u) (to k)) c) (to d)) (sym carried))
+
 -- logs in order
 module _ (log other : LogInOrder) (to back : ℕ → ℕ) (h : TellTheSame log other to back) where
   pub seen : (k : ℕ) → k < length log.order → k < length (skeleton_of log)
@@ -522,22 +543,10 @@ module _ (log other : LogInOrder) (to back : ℕ → ℕ) (h : TellTheSame log o
   -- a stamp that is given depends on those before it
   given_claim : (k : ℕ) → k < length log.order → stamp_told log k ≡ false → ((d : ℕ) → d < k → IsSameClaim d) → IsSameClaim k
   given_claim k lt untold before =
-      let t = clocks_of log in
-      let u = clocks_of other in
-      let clocks = clocks_moved log other to back h in
-      let shown : k < length (clock_skeleton t) = omega (arith, read log other to back h k lt, skeleton_size t) in
-      let send = send_of (clock_skeleton t) k in
-      let carried = carried_of log k in
       let at = moved_there log other to back h k lt in
       h.ordered.given k lt untold
-      ∙ sym (given_moved t u (seen_of log k) (seen_of other (there k)) there (moved_position other log back) clocks k (read log other to back h k lt)
-      (λ d direct.
-      let less = direct_earlier (clock_skeleton t) d k direct in
-      same_seen t u (claimed_of log) (claimed_of other) there (moved_position other log back) clocks.links claims_size other_claims_size send carried
-      (send_exists (clock_skeleton t) (clock_skeleton u) there (moved_position other log back) clocks.links k shown) d (omega arith) (before d less)
-      ∙ ap (λ (o : Option ℕ). pair_at (seen_pairs (claimed_of other) o carried) (there d))
-      (sym (send_moved (clock_skeleton t) (clock_skeleton u) there (moved_position other log back) clocks.links k shown))
-      ∙ ap (λ (c : Option Pair). pair_at (seen_pairs (claimed_of other) (send_of (clock_skeleton u) (there k)) c) (there d)) (sym (same_carried k lt))))
+      ∙ sym (given_alike log other there (moved_position other log back) (clocks_moved log other to back h) k (read log other to back h k lt)
+      (same_carried k lt) before)
       ∙ sym (h.other_ordered.given (there k) at.0 (same_told k lt ∙ untold))
 
   claims_below : (n k : ℕ) → k < n → k < length log.order → IsSameClaim k

@@ -1,5 +1,5 @@
 -- The events of a log in a causal order, as causality sees them.
-use Rattle.std.specs.Prelude.{◌≡◌, ◌≢◌, ℕ, Bool, false, ◌<◌, ◌≤◌, All, Option, Some, None, List, length, map, if◌then◌else◌, slice_index_or, slice_set}
+use Rattle.std.specs.Prelude.{◌≡◌, ◌≢◌, ℕ, ◌+◌, ◌++◌, Bool, false, ◌<◌, ◌≤◌, All, Option, Some, None, List, [], ◌∷◌, length, map, if◌then◌else◌, slice_index_or, slice_set}
 use Rattle.hlc_stamp.specs.declared.id.EventId.{EventId}
 use Rattle.hlc_stamp.specs.Ids.{places_of}
 use Rattle.hlc_stamp.specs.declared.limits.TheConstants.{MAX_CAPACITY, MAX_NODES}
@@ -8,13 +8,13 @@ use Rattle.hlc_causality.specs.Causality.{Skeleton, SkeletonEvent, skeleton_at}
 use Rattle.hlc_causality.specs.declared.receives.Receives.{Receives}
 use Rattle.hlc_causality.specs.ClockEvents.{ClockEvents}
 use Rattle.hlc_causality.specs.Feasible.{IsLeastFeasible}
-use Rattle.hlc_causality.specs.ReceiveEvents.{clock_events}
+use Rattle.hlc_causality.specs.ReceiveEvents.{clock_events, own_at}
 use Rattle.hlc_causality.specs.Assignment.{pair_at}
 use Rattle.hlc_causes.specs.Given.{given_at}
 use Rattle.hlc_causes.specs.Seen.{seen_at, wrongly_carried}
 use Rattle.hlc_execution.specs.Execution.{HasLeastClockStamps, StoredExecution, clock_of}
 use Rattle.hlc_log.specs.CausalOrder.{IsCausalOrder, place_at}
-use Rattle.hlc_log.specs.Events.{IsInRange, event_at, with_stamp}
+use Rattle.hlc_log.specs.Events.{IsInRange, event_at, own_rule, with_stamp}
 use Rattle.hlc_log.specs.Log.{StoredLog}
 use Rattle.hlc_log.specs.Messages.{AreMessagesSound, Sends, SendsTo}
 use Rattle.hlc_log.specs.OrderSkeleton.{rules_in, skeleton_in}
@@ -69,9 +69,14 @@ abbrev pub with_send : List (Option EventId) → LogKind → EventId → List (O
 with_send sends (kind.Send m) position = slice_set sends m.0 (Some position)
 with_send sends _ position = sends
 
--- a log in a causal order: what its clocks do at receives, its events as the log has them, their places in that order, and the least
--- stamps in that order
+-- each event is of one of the first so many nodes
+abbrev pub AreOfNodes : ℕ → List LogEvent → Type 0
+AreOfNodes nodes events = All (λ event. event.node.0 < nodes) events
+
+-- a log in a causal order: how many nodes it has, what its clocks do at receives, its events as the log has them, their places in that
+-- order, and the least stamps in that order
 pub record LogInOrder : Type 0 where
+  pub nodes : ℕ
   pub receives : Receives
   pub events : List LogEvent
   pub order : List ℕ
@@ -125,10 +130,12 @@ AreGivenBefore log n = (k : ℕ) → k < n → stamp_told log k ≡ false → pa
 abbrev pub IsGivenStamps : LogInOrder → Type 0
 IsGivenStamps log = AreGivenBefore log (length log.order)
 
--- each message is sent once and received only if it is sent, the order is causal, the least stamps are those, and stamps that aren't told are given;
+-- nodes are few, and each event is of one of them; each message is sent once and received only if it is sent, the order is causal, the least stamps are those, and stamps that aren't told are given;
 -- readings and floors are in range, and the stamps of restarts are told
 pub record IsInOrder (log : LogInOrder) : Type 0 where
   pub few : length log.events ≤ MAX_CAPACITY
+  pub few_nodes : log.nodes ≤ MAX_NODES
+  pub of_nodes : AreOfNodes log.nodes log.events
   pub in_range : All IsInRange log.events
   pub messages : AreMessagesSound log.events
   pub causal : IsCausalOrder log.events log.order
@@ -157,9 +164,25 @@ pub record ArePositions (order : List ℕ) (n : ℕ) (positions : List EventId) 
   pub one_each : length positions ≡ n
   pub each : (k : ℕ) → k < length order → (slice_index_or positions (place_at order k) (record { 0 = 0 })).0 ≡ k
 
+-- an execution got one event of a log more, by its own rule and with its least stamp; send is what it receives
+pub record HasOneMore (before after : StoredExecution) (event : LogEvent) (send : Option ℕ) : Type 0 where
+  pub nodes : after.nodes ≡ before.nodes
+  pub receives : after.rules.receives ≡ before.rules.receives
+  pub events : after.events ≡ before.events ++ record { node = event.node.0; reading = event.reading; send = send } ∷ []
+  pub own : own_at after.rules (length before.events) ≡ own_rule before.rules.receives event
+  pub others : (k : ℕ) → k < length before.events → own_at after.rules k ≡ own_at before.rules k
+  pub ruled : length after.rules.own ≤ length before.events + 1
+  pub least : HasLeastClockStamps after
+
+-- an execution has the first n events of a log in an order, each with the rule of its own, and their least stamps
+pub record HasFirst (events : List LogEvent) (order : List ℕ) (n : ℕ) (execution : StoredExecution) : Type 0 where
+  pub seen : AreSeenAs events order n execution.events
+  pub own : (k : ℕ) → k < n → own_at execution.rules k ≡ own_rule execution.rules.receives (event_in_order events order k)
+  pub ruled : length execution.rules.own ≤ n
+  pub least : HasLeastClockStamps execution
+
 -- an execution has the events of a log in an order, with the least stamps
 pub record IsExecutionOf (events : List LogEvent) (order : List ℕ) (execution : StoredExecution) : Type 0 where
-  pub nodes : execution.nodes ≡ MAX_NODES
   pub events_are : execution.events ≡ skeleton_in events order
   pub clocks_are : clock_of execution ≡ clock_events (rules_in execution.rules.receives events order) (skeleton_in events order)
   pub least : HasLeastClockStamps execution
@@ -167,6 +190,7 @@ pub record IsExecutionOf (events : List LogEvent) (order : List ℕ) (execution 
 -- the log in order that parts hold
 abbrev pub log_in_order : StoredLog → List EventId → StoredExecution → LogInOrder
 log_in_order log order execution = record {
+  nodes = execution.nodes;
   receives = execution.rules.receives;
   events = log.events;
   order = places_of order;
@@ -176,6 +200,8 @@ log_in_order log order execution = record {
 -- the parts that a log in order is kept in agree
 pub record AreParts (log : StoredLog) (order positions : List EventId) (execution : StoredExecution) : Type 0 where
   pub few : length log.events ≤ MAX_CAPACITY
+  pub few_nodes : execution.nodes ≤ MAX_NODES
+  pub of_nodes : AreOfNodes execution.nodes log.events
   pub in_range : All IsInRange log.events
   pub messages : AreMessagesSound log.events
   pub causal : IsCausalOrder log.events (places_of order)

@@ -1,11 +1,12 @@
 ghost use Rattle.std.specs.Prelude.{◌≡◌, ℕ, ◌+◌, ◌<◌, ◌≤◌, All, IfOk, OnOk, length};
 ghost use Rattle.hlc_stamp.specs.Ids.{places_of};
+ghost use Rattle.hlc_causality.specs.Neighbours.{place_of};
 ghost use Rattle.hlc_causality.specs.ReceiveEvents.{own_at};
-ghost use Rattle.hlc_execution.specs.Execution.{clock_of};
+ghost use Rattle.hlc_execution.specs.Execution.{HasLeastClockStamps, MayFollow, clock_of};
 ghost use Rattle.hlc_log.specs.CausalOrder.{IsCausalOrder};
 ghost use Rattle.hlc_log.specs.Events.{IsInRange, IsMessageBelow, IsNumbered, own_rule};
 ghost use Rattle.hlc_log.specs.Messages.{AreMessagesSound};
-ghost use Rattle.hlc_log_report.specs.InOrder.{IsExecutionOf, send_received, with_send};
+ghost use Rattle.hlc_log_report.specs.InOrder.{AreOfNodes, HasOneMore, IsExecutionOf, send_received, with_send};
 
 use hlc_causality::Receives;
 use hlc_causes::push_least;
@@ -21,27 +22,50 @@ pub(crate) fn execution_in(
     log: &Log,
     order: &[EventId],
     messages: u32,
+    nodes: u16,
     receives: Receives,
 ) -> Result<Execution, AllocError>
     requires few { length log.now.events ≤ MAX_CAPACITY }
+    requires few_nodes { nodes ≤ MAX_NODES }
+    requires named { AreOfNodes nodes log.now.events }
     requires numbered { All (IsNumbered messages) log.now.events }
     requires in_range { All IsInRange log.now.events }
     requires messages { AreMessagesSound log.now.events }
     requires order { IsCausalOrder log.now.events (places_of order.now) }
     ensures execution { IfOk result (IsExecutionOf log.now.events (places_of order.now)) }
     ensures receives { IfOk result (λ execution. execution.rules.receives ≡ receives) }
+    ensures nodes { IfOk result (λ execution. execution.nodes ≡ nodes) }
 {
-    let mut execution = Execution::with_receives(alloc, MAX_NODES, receives)?;
+    let mut execution = Execution::with_receives(alloc, nodes, receives)?;
     let mut sends = vec![in alloc; Link::none(); messages as usize]?;
     for place in order {
         let event = log.at(*place);
         let send = send_received(&sends, event.kind);
-        give_own_rule(&mut execution, event)?;
-        execution.reserve()?;
-        let position = push_least(&mut execution, event.node, event.reading, send);
+        let position = push_event(&mut execution, event, send)?;
         keep_send(&mut sends, event.kind, position);
     }
     Ok(execution)
+}
+
+// Puts an event of a log at the end, by the rule of its own if it has one, with the least stamp, and answers its place. `send` is what it
+// receives.
+pub(crate) fn push_event(
+    execution: &mut Execution,
+    event: LogEvent,
+    send: Option<EventId>,
+) -> Result<EventId, AllocError>
+    requires few { length execution.old.events < MAX_CAPACITY }
+    requires in_range { IsInRange event }
+    requires ruled { length execution.old.rules.own ≤ length execution.old.events }
+    requires follows { MayFollow execution.old.nodes execution.old.events
+        (record { node = event.node.0; reading = event.reading; send = place_of send }) }
+    requires least { HasLeastClockStamps execution.old }
+    ensures more { OnOk result (HasOneMore execution.old execution.new event (place_of send)) }
+    ensures place { IfOk result (λ place. place.0 ≡ length execution.old.events) }
+{
+    give_own_rule(execution, event)?;
+    execution.reserve()?;
+    Ok(push_least(execution, event.node, event.reading, send))
 }
 
 // Gives the event that comes next the rule that an event of the log has of its own, if it has one.

@@ -2,7 +2,7 @@
 //!
 //! - `OrderedLog` is a log (`hlc_log`) in a causal order, with the stamps that it claims and the least ones. Its `finding` and `causes`
 //!   say what `hlc_causes` finds of an event, by its `execution` and itself, as `Claims`. An event has two numbers: its place in the
-//!   log, and its position in the order. `event` and `position` lead from the one to the other.
+//!   log, and its position in the order. `event` and `position` lead from the one to the other. `reorder` puts the events into another order.
 //! - An event of which the log tells no stamp is given the one of the clock rule, after the stamps claimed just before it. It claims nothing
 //!   itself: `finding` and `causes` say nothing of it, but what comes after it sees its stamp. `has_stamp` says of which events stamps are
 //!   told.
@@ -14,7 +14,7 @@
 //! - `laws` says that verdicts, causes, skews and the stamps that are given don't depend on the order in which the log tells of its events,
 //!   and that a log where nothing is wrong claims the least stamps.
 //!
-//! All but `OrderedLog::new` go over the events once, and only it and `skews_of` take memory.
+//! All but `OrderedLog::new` go over the events once, and only it, `reorder` and `skews_of` take memory.
 //!
 //! It reads no text, and knows nodes and messages by number alone: their names are with `hlc_log_text`. It looks for no causes, and
 //! it doesn't say how long a message took: a skew is the difference of two readings, and a message's time hides as much of it.
@@ -30,7 +30,7 @@
 //!     ensures fault { IfErr result (IsFaultOf log.events) }
 //! {
 //!     let order = causal_order(alloc, &log, messages)?;
-//!     let ordered = OrderedLog::new(alloc, log, order, messages, Receives::Tick)?;
+//!     let ordered = OrderedLog::new(alloc, log, order, messages, MAX_NODES, Receives::Tick)?;
 //!     Ok(count_messages(&ordered))
 //! }
 //! ```
@@ -43,6 +43,7 @@ pub mod laws;
 mod messages;
 mod missing;
 mod ordered_log;
+mod reordering;
 mod skew;
 mod skews;
 

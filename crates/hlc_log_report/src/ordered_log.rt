@@ -1,4 +1,4 @@
-ghost use Rattle.std.specs.Prelude.{◌≡◌, ◌<◌, ◌≤◌, All, IfOk, length};
+ghost use Rattle.std.specs.Prelude.{◌≡◌, ◌<◌, ◌≤◌, All, IfOk, OnErr, OnOk, length};
 ghost use Rattle.hlc_stamp.specs.Ids.{places_of};
 ghost use Rattle.std.specs.Option.{ForSome};
 ghost use Rattle.hlc_causality.specs.ClockEvents.{clock_skeleton};
@@ -9,10 +9,11 @@ ghost use Rattle.hlc_log.specs.CausalOrder.{IsCausalOrder, place_at};
 ghost use Rattle.hlc_log.specs.Events.{IsInRange, IsNumbered, event_at};
 ghost use Rattle.hlc_log.specs.Messages.{AreMessagesSound};
 ghost use Rattle.hlc_log_report.specs.Found.{FindsAt, NamesCausesIn};
-ghost use Rattle.hlc_log_report.specs.InOrder.{AreFilled, ArePositions, EachDiffers, EachExists, IsInOrder, carried_of, claimed_of, clocks_of, event_in_order, reading_told, seen_of, skeleton_of, stamp_told, wrong_of};
+ghost use Rattle.hlc_log_report.specs.InOrder.{AreFilled, AreOfNodes, ArePositions, EachDiffers, EachExists, IsInOrder, carried_of, claimed_of, clocks_of, event_in_order, reading_told, seen_of, skeleton_of, stamp_told, wrong_of};
 
 use crate::giving::give_stamps;
 use crate::in_order::execution_in;
+use crate::reordering::reordered_execution;
 use hlc_causality::Receives;
 use hlc_causes::{Causes, Claims, Finding, Seen, causes_at, finding};
 use hlc_execution::Execution;
@@ -61,8 +62,8 @@ fn positions_in(alloc: Global, order: &[EventId], events: u32) -> Result<Vec<Eve
 }
 
 impl OrderedLog {
-    /// A log in a causal order, as `causal_order` finds one, whose clocks do this at receives. Messages have numbers below `messages`.
-    /// Each event without a stamp is given its own.
+    /// A log of so many nodes in a causal order, as `causal_order` finds one, whose clocks do this at receives. Messages have numbers below
+    /// `messages`. Each event without a stamp is given its own.
     ///
     /// It takes the memory of an `Execution` and 4 bytes for each event; before these last 4, it takes 4 for each message for a while.
     pub fn new(
@@ -70,19 +71,23 @@ impl OrderedLog {
         mut log: Log,
         order: Vec<EventId>,
         messages: u32,
+        nodes: u16,
         receives: Receives,
     ) -> Result<OrderedLog, AllocError>
+        requires few { nodes ≤ MAX_NODES }
+        requires named { AreOfNodes nodes log.events }
         requires numbered { All (IsNumbered messages) log.events }
         requires in_range { All IsInRange log.events }
         requires sound { AreMessagesSound log.events }
         requires order { IsCausalOrder log.events (places_of order.items) }
+        ensures nodes { IfOk result (λ ordered. ordered.nodes ≡ nodes) }
         ensures receives { IfOk result (λ ordered. ordered.receives ≡ receives) }
         ensures events { IfOk result (λ ordered. AreFilled log.events ordered.events) }
         ensures order { IfOk result (λ ordered. ordered.order ≡ places_of order.items) }
         ensures ordered { IfOk result IsInOrder }
     {
         let events = log.len();
-        let execution = execution_in(alloc, &log, &order, messages, receives)?;
+        let execution = execution_in(alloc, &log, &order, messages, nodes, receives)?;
         let positions = positions_in(alloc, &order, events)?;
         give_stamps(&mut log, &order, &execution);
         Ok(OrderedLog {
@@ -91,6 +96,28 @@ impl OrderedLog {
             positions,
             execution,
         })
+    }
+
+    /// Puts the events into another causal order. All stamps stay: those that were given don't depend on the order.
+    ///
+    /// It takes the memory of an `Execution` and 4 bytes for each event, before it gives back that of the order that the log had.
+    pub fn reorder(&mut self, alloc: Global, order: Vec<EventId>) -> Result<(), AllocError>
+        requires { IsCausalOrder self.old.events (places_of order.items) }
+        ensures order { OnOk result (self.new.order ≡ places_of order.items) }
+        ensures unchanged { OnErr result (self.new ≡ self.old) }
+
+        // Whatever the outcome, it is the same log.
+        ensures nodes { self.new.nodes ≡ self.old.nodes }
+        ensures receives { self.new.receives ≡ self.old.receives }
+        ensures events { self.new.events ≡ self.old.events }
+        ensures ordered { IsInOrder self.new }
+    {
+        let positions = positions_in(alloc, &order, self.len())?;
+        let execution = reordered_execution(alloc, self, &order, &positions)?;
+        self.order = order;
+        self.positions = positions;
+        self.execution = execution;
+        Ok(())
     }
 
     /// How many events there are.
@@ -108,7 +135,7 @@ impl OrderedLog {
         ensures stamps { result.now.stamps ≡ self.now.least }
         ensures clocks { clock_of result.now ≡ clocks_of self.now }
         ensures least { HasLeastClockStamps result.now }
-        ensures nodes { result.now.nodes ≡ MAX_NODES }
+        ensures nodes { result.now.nodes ≡ self.now.nodes }
     {
         &self.execution
     }
@@ -154,7 +181,7 @@ impl OrderedLog {
     }
 
     // Where the send stands of what the event at a position receives.
-    fn send(&self, position: EventId) -> Option<EventId>
+    pub(crate) fn send(&self, position: EventId) -> Option<EventId>
         requires { position.0 < length self.now.events }
         ensures value { place_of result ≡ send_of (clock_skeleton (clocks_of self.now)) position.0 }
         ensures exists { ForSome result (λ d. d.0 < length (claimed_of self.now)) }
@@ -216,14 +243,6 @@ impl OrderedLog {
         } else {
             Causes::none()
         }
-    }
-
-    /// The log alone, with the stamps that were given.
-    pub fn into_log(self) -> Log
-        ensures { result.events ≡ self.events }
-    {
-        let OrderedLog { log, .. } = self;
-        log
     }
 
     /// Where the event at a place of the log stands in the order.

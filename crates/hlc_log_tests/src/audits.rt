@@ -17,8 +17,8 @@ pub(crate) const PAIRS: AuditRules = AuditRules {
         form: StampForm::Pair,
         tolerance: 0,
         receives: Receives::Tick,
+        unsent_local: false,
     },
-    unsent_local: false,
     limit: None,
     report: false,
 };
@@ -50,8 +50,8 @@ const UNSENT_LOCAL: AuditRules = AuditRules {
         form: StampForm::Pair,
         tolerance: 0,
         receives: Receives::Tick,
+        unsent_local: true,
     },
-    unsent_local: true,
     limit: None,
     report: false,
 };
@@ -61,8 +61,8 @@ const DOTTED: AuditRules = AuditRules {
         form: StampForm::Dotted,
         tolerance: 0,
         receives: Receives::Tick,
+        unsent_local: false,
     },
-    unsent_local: false,
     limit: None,
     report: false,
 };

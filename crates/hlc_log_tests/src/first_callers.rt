@@ -108,8 +108,8 @@ fn a_log_in_memory_is_audited(rt: HostRuntime) {
             form: StampForm::Pair,
             tolerance: 0,
             receives: Receives::Tick,
+            unsent_local: false,
         },
-        unsent_local: false,
         limit: None,
         report: false,
     };

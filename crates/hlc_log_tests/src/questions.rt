@@ -104,8 +104,8 @@ const REPORTED: AuditRules = AuditRules {
         form: StampForm::Pair,
         tolerance: 0,
         receives: Receives::Tick,
+        unsent_local: false,
     },
-    unsent_local: false,
     limit: None,
     report: true,
 };

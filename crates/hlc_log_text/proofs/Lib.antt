@@ -1,6 +1,7 @@
 pub mod LogFacts
 pub mod NameFacts
 pub mod NamedLogs
+pub mod NamedNodes
 pub mod PackedOrder
 pub mod PlainLogs
 pub mod QuestionTexts

@@ -34,8 +34,8 @@
 //! - `Names` has names in the order in which they were first mentioned, and gives the name of a number; `node_name` gives that of a node.
 //! - `Labels` gives the label of an event by its place; only labels that are there take memory.
 //! - `LogQuestion` is what a record can ask, and `question_of` reads one from a text of its own.
-//! - `LogRules` says how a log is read: the form of its stamps, within how much of the clocks its readings are known, and what the clocks
-//!   do at receives (`hlc_causality`). Reading a record takes the first two.
+//! - `LogRules` says how a log is read: the form of its stamps, within how much of the clocks its readings are known, what the clocks do at
+//!   receives (`hlc_causality`), and what becomes of a receive of a message that nobody sends. Reading a record takes the first two.
 //! - `StampForm` says how stamps are written: a hybrid logical clock's stamp has two parts, `l` and `c`, and logs show them in two fields,
 //!   as one with a dot (CockroachDB: `1700000000123456789.0000000001`), or packed into one number of 64 bits, with `c` in the low ones
 //!   (uhlc, YugabyteDB and TiDB: 4, 12 and 18 of them). `field_count` says how many fields that takes, and `full` is the

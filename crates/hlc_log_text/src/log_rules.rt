@@ -12,12 +12,14 @@ pub struct LogRules {
     pub tolerance: u64,
     /// What the clocks do at receives.
     pub receives: Receives,
+    /// Whether a receive of a message that nobody sends is taken as a local event, unless it tells what that carried.
+    pub unsent_local: bool,
 }
 
 impl LogRules {
     ghost use Rattle.hlc_log_text.specs.LogRules.{exact_rules};
 
-    /// Stamps in this form, exact readings, and receives that tick.
+    /// Stamps in this form, exact readings, receives that tick, and none of a message that nobody sends.
     pub fn exact(form: StampForm) -> LogRules
         ensures { result ≡ exact_rules form }
     {
@@ -25,6 +27,7 @@ impl LogRules {
             form,
             tolerance: 0,
             receives: Receives::Tick,
+            unsent_local: false,
         }
     }
 }

@@ -96,7 +96,7 @@ pub record AreRulesOf (form tolerance receives : ℕ) (unsent_local : Bool) (lim
   pub form_is : IsFormOf form rules.records.form
   pub tolerance_is : rules.records.tolerance ≡ tolerance
   pub receives_are : rules.records.receives ≡ receives_of receives
-  pub unsent_is : rules.unsent_local ≡ unsent_local
+  pub unsent_is : rules.records.unsent_local ≡ unsent_local
   pub limit_is : rules.limit ≡ limit_of limit
   pub report_is : rules.report ≡ report
 
@@ -130,7 +130,7 @@ pub record AreDrawingOf (form tolerance receives : ℕ) (unsent_local : Bool) (e
   pub form_is : IsFormOf form options.records.form
   pub tolerance_is : options.records.tolerance ≡ tolerance
   pub receives_are : options.records.receives ≡ receives_of receives
-  pub unsent_is : options.unsent_local ≡ unsent_local
+  pub unsent_is : options.records.unsent_local ≡ unsent_local
   pub part_is : options.part ≡ Rows (Between (line_of from) (line_of to)) (line_of explained)
 
 -- these bytes are what the program writes if it draws that log by these numbers

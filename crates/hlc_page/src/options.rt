@@ -99,15 +99,17 @@ fn receives_of(number: u32) -> Receives
 }
 
 // How the records of a log are read by these numbers.
-fn records(stamp_form: u32, tolerance: u64, receives: u32) -> LogRules
+fn records(stamp_form: u32, tolerance: u64, receives: u32, unsent_local: bool) -> LogRules
     ensures form { IsFormOf stamp_form result.form }
     ensures tolerance { result.tolerance ≡ tolerance }
     ensures receives { result.receives ≡ receives_of receives }
+    ensures unsent { result.unsent_local ≡ unsent_local }
 {
     LogRules {
         form: form(stamp_form),
         tolerance,
         receives: receives_of(receives),
+        unsent_local,
     }
 }
 
@@ -123,8 +125,7 @@ pub(crate) fn rules(
     ensures { AreRulesOf stamp_form tolerance receives unsent_local drift_limit report result }
 {
     AuditRules {
-        records: records(stamp_form, tolerance, receives),
-        unsent_local,
+        records: records(stamp_form, tolerance, receives, unsent_local),
         limit: limit(drift_limit),
         report,
     }
@@ -143,8 +144,7 @@ pub(crate) fn drawing(
     ensures { AreDrawingOf stamp_form tolerance receives unsent_local explained from to result }
 {
     DrawLogOptions {
-        records: records(stamp_form, tolerance, receives),
-        unsent_local,
+        records: records(stamp_form, tolerance, receives, unsent_local),
         part: LogPart::Rows {
             rows: LogRows::Between {
                 from: line(from),

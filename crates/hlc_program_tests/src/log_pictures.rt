@@ -21,8 +21,8 @@ const ALL_ROWS: DrawLogOptions = DrawLogOptions {
         form: StampForm::Pair,
         tolerance: 0,
         receives: Receives::Tick,
+        unsent_local: false,
     },
-    unsent_local: false,
     part: LogPart::Rows {
         rows: LogRows::Between {
             from: None,

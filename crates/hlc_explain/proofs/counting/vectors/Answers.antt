@@ -1,6 +1,14 @@
-use Rattle.std.proofs.Common.{◌≡◌, length, arith}
-use Rattle.hlc_explain.proofs.KeptCounts.{all_kept}
+use Rattle.std.proofs.Common.{◌≡◌, ◌<◌, length, arith}
+use Rattle.hlc_explain.proofs.KeptCounts.{all_kept, row_within}
 use Rattle.hlc_explain.proofs.counting.vectors.Goals as goal
+
+pub push_vector-requires-clause-room : goal.push_vector-requires-clause-room
+push_vector-requires-clause-room c =
+    let x = c.args.execution.now in
+    let exists : c.loop-place.place < length x.events = omega (arith, c.loop-place-test.true, c.len-events.ensures.value) in
+    let row = row_within c.loop-place.place (length x.events) x.nodes exists in
+    let room = c.loop-place.invariant.capacity in
+    omega arith
 
 pub returns : goal.returns
 returns c =

@@ -1,4 +1,4 @@
-use Rattle.std.proofs.Common.{◌≡◌, ℕ, vec_capacity, vec_len}
+use Rattle.std.proofs.Common.{◌≡◌, ℕ, length, vec_capacity}
 use Rattle.hlc_explain.specs.KnownOrigins.{known_at}
 use Rattle.hlc_explain.proofs.known_origins.unknown.Given as goal
 
@@ -6,6 +6,6 @@ use Rattle.hlc_explain.proofs.known_origins.unknown.Given as goal
 abbrev pub invariant-loop-place : goal.invariant-loop-place
 invariant-loop-place l = record {
   own : (e : ℕ) → known_at l.origins.items e ≡ e;
-  filled : vec_len l.origins ≡ l.place;
+  filled : length l.origins.items ≡ l.place;
   room : vec_capacity l.origins ≡ l.fn.end.0;
 }

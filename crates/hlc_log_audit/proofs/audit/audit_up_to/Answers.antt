@@ -1,19 +1,30 @@
-use Rattle.std.proofs.Common.{arith, inl}
-use Rattle.hlc_log_audit.proofs.FewMessages.{few_messages}
+use Rattle.std.proofs.Common.{inl, subst}
+use Rattle.std.specs.Io.KnownBytes.{Appends}
+use Rattle.hlc_open_log.specs.Unopened.{ExplainsOpenFault, bad_text}
+use Rattle.hlc_open_log.specs.declared.bad_input.BadInput.{BadInput}
+use Rattle.hlc_log_audit.proofs.Telling.{bad_is_audited, told_is_audited}
 use Rattle.hlc_log_audit.proofs.audit.audit_up_to.Goals as goal
 
-pub audit_text-requires-clause-messages : goal.audit_text-requires-clause-messages
-audit_text-requires-clause-messages g c =
-    let few = few_messages c.args.rules.records c.args.most (g.R.Read.remaining c.args.reader) c.in-Ok.text c.in-Ok.ensures.log in
-    let most = c.requires in
-    omega arith
+pub audit_opened-requires : goal.audit_opened-requires
+audit_opened-requires g c = c.in-Ok.ensures.opened.2.full
 
-pub audit_text-requires-clause-rise : goal.audit_text-requires-clause-rise
-audit_text-requires-clause-rise g c = c.in-Ok.ensures.log.held.log.lines_rise
+pub returns-in_ok-audit_opened-in-Ok-clause-audited : goal.returns-in_ok-audit_opened-in-Ok-clause-audited
+returns-in_ok-audit_opened-in-Ok-clause-audited g c =
+    let is = c.in-Ok.ensures.opened in
+    let told = c.in_ok-audit_opened-in-Ok.ensures in
+    inl (record {
+      text = is.0;
+      read = is.1;
+      left =
+          told_is_audited is.0 c.args.rules c.args.asked.now _ _ _
+          (record { opened = c.in-Ok.log; is_opened = is.2; rows = told.0; told = told.1; written = told.2; outcome = told.3 });
+    })
 
-pub audit_text-requires-clause-nodes : goal.audit_text-requires-clause-nodes
-audit_text-requires-clause-nodes g c = c.in-Ok.ensures.log.held.log.few_nodes
-
-pub returns-in_ok-audit_text-in-Ok-clause-audited : goal.returns-in_ok-audit_text-in-Ok-clause-audited
-returns-in_ok-audit_text-in-Ok-clause-audited g c =
-    inl (record { text = c.in-Ok.text; read = c.in-Ok.ensures.log; left = c.in_ok-audit_text-in-Ok.ensures })
+pub returns-in_ok-tell_bad-in-Err-Bad-clause-audited : goal.returns-in_ok-tell_bad-in-Err-Bad-clause-audited
+returns-in_ok-tell_bad-in-Err-Bad-clause-audited g c =
+    let explained =
+    subst (ExplainsOpenFault c.args.rules.records c.args.most (g.R.Read.remaining c.args.reader)) c.in-Err-Bad.field-0-is c.in-Err-Bad.ensures.fault in
+    let shown =
+    subst (λ (bad : BadInput). Appends (g.W.Write.contents c.args.writer.now) (g.W.Write.contents c.tell_bad.new.writer) (bad_text bad))
+    c.in-Err-Bad.bad-is c.in_ok-tell_bad-in-Err-Bad.ensures in
+    bad_is_audited c.args.rules c.args.most c.args.asked.now _ _ _ c.in-Err-Bad.bad explained shown

@@ -1,30 +1,16 @@
-use Rattle.std.proofs.Common.{◌++◌, Bool, List, ℕ, refl, subst}
+use Rattle.std.proofs.Common.{◌++◌, List, ℕ, refl, subst}
 use Rattle.std.proofs.lemmas.Result.{on_ok_weaker}
 use Rattle.hlc_csv.specs.Rows.{AddsText, text_of}
-use Rattle.hlc_log_text.specs.StampForms.{greatest_c}
-use Rattle.hlc_log_audit.specs.Audit.{IsReportIf, all_asked}
-use Rattle.hlc_log_audit.specs.Answers.{AreAnswers}
 use Rattle.hlc_log_audit.proofs.RowsAdded.{adds_joined, appends-from_none}
 use Rattle.hlc_log_audit.proofs.audit.tell_log.Goals as goal
 
 pub returns : goal.returns
 returns g c =
-    let nodes = c.args.nodes.now in
-    let log = c.args.log.now in
-    let asked = all_asked c.args.questions.now c.args.asked.now in
     let report = c.in_ok-push_if_told.ensures in
     let answers = c.in_ok-push_all_answers.ensures in
     on_ok_weaker c.finish.result (λ written. (
       report.0 ++ answers.0,
-      record {
-        report = report.0;
-        is_report =
-            subst (λ (told : Bool). IsReportIf told nodes log (greatest_c c.args.rules.records.form) c.args.unsent c.args.rules.limit report.0) c.is_reported-is_told.ensures
-            (subst (λ (full : ℕ). IsReportIf c.is_reported-is_told.result nodes log full c.args.unsent c.args.rules.limit report.0) c.full-full.ensures report.1);
-        answers = answers.0;
-        are_answers = subst (λ (full : ℕ). AreAnswers nodes c.args.labels.now log full asked answers.0) c.full-full.ensures answers.1;
-        rows_are = refl;
-      },
+      record { report = report.0; is_report = report.1; answers = answers.0; are_answers = answers.1; rows_are = refl },
       appends-from_none (g.W.Write.contents c.args.writer.now) (g.W.Write.contents c.push_all_answers.new.writer)
           (g.W.Write.contents c.finish.new.writer) c.push_all_answers.new.rows (text_of (report.0 ++ answers.0))
           (subst (λ (old : List ℕ).

@@ -8,7 +8,7 @@ returns c = (
   λ holds. absurd (cc),
   λ exceeds.
       let log = c.args.log.now in
-      let size = length-skeleton_of log c.requires in
+      let size = length-skeleton_of log c.len-position-end.ensures.ordered in
       let at = subst (λ (limit : Option _). ExceedsLimit limit log) c.in-Some.is exceeds in
       absurd (c.loop-position.invariant at.0 (omega (arith, at.1.exists, c.loop-position-test.false, c.len-position-end.ensures.value, size)) at.1),
 )

@@ -23,7 +23,7 @@ pub returns-then-breaks_order : goal.returns-then-breaks_order
 returns-then-breaks_order c = (
   elim c.then-breaks_order.branch [
     | then-breaks_order-via-then-breaks_order w ↦
-        inl ((c.breaks_order.ensures c.args.log.now (greatest_c c.args.rules.records.form) c.requires.counts).0 w.if-breaks_order.true)
+        inl ((c.breaks_order.ensures c.args.log.now (greatest_c c.args.rules.records.form) c.requires).0 w.if-breaks_order.true)
     | then-breaks_order-via-else-breaks_order+then-carries_wrongly w ↦ inr (w.carries_wrongly.ensures.0 w.if-carries_wrongly.true)
   ],
   c.is_over_limit-over_limit.ensures,
@@ -31,14 +31,14 @@ returns-then-breaks_order c = (
 
 pub returns-then-over_limit : goal.returns-then-over_limit
 returns-then-over_limit c = (
-  not_broken c.args.log.now (greatest_c c.args.rules.records.form) c.args.counts c.breaks_order.result c.carries_wrongly.result c.requires.counts
+  not_broken c.args.log.now (greatest_c c.args.rules.records.form) c.args.counts c.breaks_order.result c.carries_wrongly.result c.requires
       c.breaks_order.ensures c.if-breaks_order.false c.carries_wrongly.ensures c.if-carries_wrongly.false,
   c.is_over_limit-over_limit.ensures.0 c.if-over_limit.true,
 )
 
 pub returns : goal.returns
 returns c = (
-  not_broken c.args.log.now (greatest_c c.args.rules.records.form) c.args.counts c.breaks_order.result c.carries_wrongly.result c.requires.counts
+  not_broken c.args.log.now (greatest_c c.args.rules.records.form) c.args.counts c.breaks_order.result c.carries_wrongly.result c.requires
       c.breaks_order.ensures c.if-breaks_order.false c.carries_wrongly.ensures c.if-carries_wrongly.false,
   λ exceeds. refuted c.is_over_limit-over_limit.result (c.is_over_limit-over_limit.ensures.1 exceeds) c.if-over_limit.false,
 )

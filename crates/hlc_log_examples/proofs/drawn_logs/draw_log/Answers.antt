@@ -11,8 +11,8 @@ returns c =
     let drawn = c.in_ok-pictured.pictured in
     let same = c.in_ok-pictured.ensures.log in (
       drawn,
-      ap (λ (log : LogInOrder). log.events) same ∙ c.in_ok-log.ensures.events,
-      λ ticks. subst (λ (log : LogInOrder). IsInStampOrder log) (sym same) (c.in_ok-log.ensures.by_stamp ticks),
+      ap (λ (log : LogInOrder). log.events) same ∙ c.in_ok-put_in_row_order.ensures.same.events,
+      λ ticks. subst (λ (log : LogInOrder). IsInStampOrder log) (sym same) (c.in_ok-put_in_row_order.ensures.by_stamp ticks),
       c.in_ok-draw.ensures.drawn ∙ ap (λ (items : List ℕ). items ++ picture_text (drawn_log drawn c.between.result)) c.new-svg.ensures.items
           ∙ ap (λ (view : View). picture_text (drawn_log drawn view)) c.between.ensures,
     )

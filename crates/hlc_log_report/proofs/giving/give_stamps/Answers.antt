@@ -49,7 +49,7 @@ given_stamp-stamp-requires-clause-order c =
 abbrev AreKept : (c : goal.Joined-not-has_stamp_at) → List LogEvent → Type 0
 AreKept c events =
     AreFilled c.args.log.now.events events
-    × AreGivenBefore (in_order c.args.execution.now.rules.receives (places_of c.args.order.now) c.args.execution.now.stamps events) (c.loop-position.position + 1)
+    × AreGivenBefore (in_order c.args.execution.now.nodes c.args.execution.now.rules.receives (places_of c.args.order.now) c.args.execution.now.stamps events) (c.loop-position.position + 1)
 
 kept : (c : goal.Joined-not-has_stamp_at) → AreKept c c.if-not-has_stamp_at.log.events
 kept c = elim c.if-not-has_stamp_at.branch [
@@ -68,6 +68,7 @@ kept c = elim c.if-not-has_stamp_at.branch [
       let stamp = w.given_stamp-stamp.result in
       let untold : (event_at events (place_at (places_of order) n)).has_stamp ≡ false =
       ap (λ (e : ℕ). (event_at events e).has_stamp) here ∙ sym c.has_stamp_at.ensures ∙ w.if-not-has_stamp_at.true in
+      let nodes = c.args.execution.now.nodes in
       let receives = c.args.execution.now.rules.receives in
       let least = c.args.execution.now.stamps in
       let more : List LogEvent = slice_set events (place_at (places_of order) n) (with_stamp stamp (event_at events (place_at (places_of order) n))) in
@@ -75,8 +76,8 @@ kept c = elim c.if-not-has_stamp_at.branch [
       ap (λ (e : ℕ). slice_set events e (with_stamp stamp (event_at events e))) here ∙ sym w.give_stamp.ensures
       ∙ sym (ap (λ (log : StoredLog). log.events) w.log-is) in
       subst (AreKept c) same (
-        filled_trans start events more h.filled (one_filled receives (places_of order) least events whole ranges n within stamp untold),
-        given_more receives (places_of order) least events whole ranges n within stamp untold w.given_stamp-stamp.ensures h.given,
+        filled_trans start events more h.filled (one_filled nodes receives (places_of order) least events whole ranges n within stamp untold),
+        given_more nodes receives (places_of order) least events whole ranges n within stamp untold w.given_stamp-stamp.ensures h.given,
       )
   | else-not-has_stamp_at w ↦
       let order = c.args.order.now in
@@ -88,7 +89,7 @@ kept c = elim c.if-not-has_stamp_at.branch [
       ap (λ (e : ℕ). (event_at events e).has_stamp) here ∙ sym c.has_stamp_at.ensures ∙ w.if-not-has_stamp_at.false in
       subst (AreKept c) (sym (ap (λ (log : StoredLog). log.events) w.log-is)) (
         h.filled,
-        told_more c.args.execution.now.rules.receives (places_of order) c.args.execution.now.stamps events n told h.given,
+        told_more c.args.execution.now.nodes c.args.execution.now.rules.receives (places_of order) c.args.execution.now.stamps events n told h.given,
       )
 ]
 

@@ -3,6 +3,7 @@ use Rattle.std.proofs.lemmas.Bool.Decides.{nat_tests}
 use Rattle.std.proofs.lemmas.List.{at_drop_more}
 use Rattle.std.proofs.Math.Seq.{take-length}
 use Rattle.std.proofs.lemmas.List.Elements.{All-push}
+use Rattle.std.proofs.lemmas.Result.{err_from_is_err_and}
 use Rattle.hlc_stamp.specs.declared.id.EventId.{EventId}
 use Rattle.hlc_stamp.specs.declared.rank.Rank.{Rank}
 use Rattle.hlc_arena.specs.History.{StampedEvent}
@@ -142,3 +143,19 @@ loop-write-preserved-in_default c =
           ap (take (length c.args.table.now)) (learns ∙ learnt_last table key entry none)
           ∙ take_stays c.args.table.now table last so_far.stays;
     }
+
+pub returns-in_err-learn-clause-news : goal.returns-in_err-learn-clause-news
+returns-in_err-learn-clause-news c = rw (err_from_is_err_and c.from_residual.result c.from_residual.ensures.1).1 tt
+
+pub returns-in_err-learn-clause-stays : goal.returns-in_err-learn-clause-stays
+returns-in_err-learn-clause-stays c =
+    ap (take (length c.args.table.now)) (c.in_err-learn.ensures.unchanged (λ is. absurd (cc))) ∙ c.loop-write.invariant.stays
+
+pub returns-in_err-push-clause-news : goal.returns-in_err-push-clause-news
+returns-in_err-push-clause-news c = rw (err_from_is_err_and c.from_residual-in_err-push.result c.from_residual-in_err-push.ensures.1).1 tt
+
+pub returns-in_err-push-clause-stays : goal.returns-in_err-push-clause-stays
+returns-in_err-push-clause-stays c = c.loop-write.invariant.stays
+
+pub returns-clause-stays : goal.returns-clause-stays
+returns-clause-stays c = c.loop-write.invariant.stays

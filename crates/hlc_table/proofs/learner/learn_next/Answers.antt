@@ -57,3 +57,15 @@ pub learn-requires : goal.learn-requires
 learn-requires c =
     let one = c.requires.one_write_a_rank in
     record { one_write_a_rank = one_write c.args.history.now.events c.args.next.now c.args.table.now c.len.result _ one c.len.ensures.value }
+
+pub carried-requires : goal.carried-requires
+carried-requires c =
+    let names_earlier = c.requires.names.earlier.delivered in
+    MatchOption-at_some (Unit {0}) (λ m. m < length c.args.history.now.events) c.in-Deliver.sent.0
+    (ap (λ kind. delivered_send (event_kind_of kind)) c.in-Deliver.is) names_earlier
+
+pub returns-in-Deliver-clause-unchanged : goal.returns-in-Deliver-clause-unchanged
+returns-in-Deliver-clause-unchanged c = c.learn_all.ensures.unchanged
+
+pub returns-in-Write-clause-unchanged : goal.returns-in-Write-clause-unchanged
+returns-in-Write-clause-unchanged c = c.learn.ensures.unchanged

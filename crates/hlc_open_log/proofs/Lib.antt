@@ -1,0 +1,4 @@
+pub mod FewMessages
+pub mod LinesKept
+pub mod NamesKept
+pub mod OpenedLogs

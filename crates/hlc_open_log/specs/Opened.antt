@@ -1,0 +1,85 @@
+-- A log that was opened.
+use Rattle.std.specs.Prelude.{◌≡◌, ℕ, ◌*◌, ◌<◌, ◌≤◌, All, AllPairs, List, Option, Some, None, if◌then◌else◌, length}
+use Rattle.hlc_stamp.specs.declared.limits.TheConstants.{MAX_CAPACITY, MAX_NODES}
+use Rattle.hlc_log.specs.Events.{IsInRange, IsNumbered}
+use Rattle.hlc_log.specs.Unsent.{unsent_count, with_unsent}
+use Rattle.hlc_log.specs.declared.log_event.LogEvent.{LogEvent}
+use Rattle.hlc_log_report.specs.InOrder.{AreFilled, IsInOrder, LogInOrder}
+use Rattle.hlc_log_text.specs.ReadLog.{IsReadWhole}
+use Rattle.hlc_log_text.specs.StampForms.{greatest_c}
+use Rattle.hlc_log_text.specs.declared.log_rules.LogRules.{LogRules}
+use Rattle.hlc_log_text.specs.declared.log_text.LogText.{LogText}
+use Rattle.hlc_log_text.specs.declared.question.LogQuestion.{LogQuestion}
+
+-- a log in a causal order, with the names of its nodes, its labels, what is asked in it, how many of its receives were taken as local events, if they
+-- were to be, and the greatest c that the form of its stamps writes
+pub record OpenedLog : Type 0 where
+  pub log : LogInOrder
+  pub nodes : List (List ℕ)
+  pub labels : List (ℕ × List ℕ)
+  pub questions : List LogQuestion
+  pub unsent : Option ℕ
+  pub full : ℕ
+
+-- the record of each event begins on a later line than those before it
+abbrev pub LinesRise : List LogEvent → Type 0
+LinesRise events = AllPairs (λ d e. d.line < e.line) events
+
+-- each event is of a node that has a name
+abbrev pub HaveNames : List LogEvent → (nodes : List (List ℕ)) → Type 0
+HaveNames events nodes = All (λ event. event.node.0 < length nodes) events
+
+-- what is so of each opened log
+pub record IsOpen (opened : OpenedLog) : Type 0 where
+  pub ordered : IsInOrder opened.log
+  pub nodes_are : opened.log.nodes ≡ length opened.nodes
+  pub rise : LinesRise opened.log.events
+  pub few : length opened.nodes ≤ MAX_NODES
+  pub named : HaveNames opened.log.events opened.nodes
+
+-- an opened log is the same after as before, but for the order of its events
+pub record IsReordered (before after : OpenedLog) : Type 0 where
+  pub receives : after.log.receives ≡ before.log.receives
+  pub events : after.log.events ≡ before.log.events
+  pub nodes : after.nodes ≡ before.nodes
+  pub labels : after.labels ≡ before.labels
+  pub questions : after.questions ≡ before.questions
+  pub unsent : after.unsent ≡ before.unsent
+  pub full : after.full ≡ before.full
+
+-- the events of a log that was read as they are opened: receives of messages that nobody sends came in from outside if it is told what these carried,
+-- and are else local if the rules say so
+abbrev pub opened_events : LogRules → List LogEvent → List LogEvent
+opened_events rules events = with_unsent rules.unsent_local events
+
+-- how many receives of unsent messages are taken as local events, if the rules say so
+abbrev pub unsent_of : LogRules → List LogEvent → Option ℕ
+unsent_of rules events = if rules.unsent_local then Some (unsent_count events) else None
+
+-- events are in a causal order, by the rules, each without a stamp with the one that it is given; and so many are taken as local
+pub record IsOrderedOf (rules : LogRules) (events : List LogEvent) (log : LogInOrder) (unsent : Option ℕ) : Type 0 where
+  pub receives : log.receives ≡ rules.receives
+  pub filled : AreFilled (opened_events rules events) log.events
+  pub in_order : IsInOrder log
+  pub taken : unsent ≡ unsent_of rules events
+
+-- a log that was read is opened, by the rules
+pub record IsOpenedOf (rules : LogRules) (text : LogText) (opened : OpenedLog) : Type 0 where
+  pub ordered : IsOrderedOf rules text.log.events opened.log opened.unsent
+  pub nodes : opened.nodes ≡ text.nodes
+  pub labels : opened.labels ≡ text.labels
+  pub questions : opened.questions ≡ text.questions.items
+  pub full : opened.full ≡ greatest_c rules.form
+
+-- the bytes are a log of at most so many records, which is opened
+abbrev pub IsOpened : LogRules → (most : ℕ) → (bytes : Option (List ℕ)) → OpenedLog → Type 0
+IsOpened rules most bytes opened = (text : LogText) × IsReadWhole rules most bytes text × IsOpenedOf rules text opened
+
+-- what is so of each log that was read
+pub record IsSoundText (text : LogText) : Type 0 where
+  pub numbered : All (IsNumbered text.messages) text.log.events
+  pub in_range : All IsInRange text.log.events
+  pub messages : text.messages ≤ 2 * MAX_CAPACITY
+  pub rise : LinesRise text.log.events
+  pub few : length text.nodes ≤ MAX_NODES
+  pub named : HaveNames text.log.events text.nodes
