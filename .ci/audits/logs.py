@@ -1,6 +1,7 @@
 """Logs to audit, from seeds: small ones of every kind with and without faults, and those of a cluster with planted faults."""
 
 import heapq
+import json
 
 import model
 
@@ -316,6 +317,90 @@ def spoil_header(rng, table):
         fields.append(b"node")
     elif how == 5:
         del rng.choice(table)[rng.randrange(1, 3) :]
+
+
+# JSON lines
+
+OTHER_LINES = [b"", b" \t", b"started", b"{}", b"[]", b"null", b'{"kind":"heartbeat"}', b'{"kind":7}', b'{"kind":null,"node":"a"}', b'{"kind":"local"', b"{\xff}", b"==>"]
+KIND_VALUES = {b"local": ["op", "local"], b"send": ["rpc.send", "reply"], b"receive": ["rpc.recv", "done", "receive"], b"restart": ["up"]}
+PATHS = [".{}", ".{}", ".clock.{}", ".a b.{}.value", ".$t.{}"]
+
+
+def as_json(rng, form, records, spoils=False):
+    """Records of events as JSON lines, among other lines, and the options by which they are read. If they are to be spoilt, some values are of
+    another type."""
+    paths = {name.decode(): [name.decode()] for name in model.COLUMNS}
+    fields, kinds = [], []
+    for name in rng.sample([*paths], rng.randrange(len(paths))):
+        path = rng.choice(PATHS).format(rng.choice((name, "x" + name)))
+        if path[1:].split(".") not in paths.values():
+            paths[name] = path[1:].split(".")
+            fields.append(f"{name}={path}")
+    told = rng.random() < 0.7
+    if told:
+        kinds = [f"{word.decode()}={','.join(values)}" for word, values in KIND_VALUES.items()]
+    lines = []
+    for record in records:
+        while rng.random() < 0.1:
+            lines.append(rng.choice(OTHER_LINES))
+        if record[0] not in model.KINDS:
+            lines.append(b",".join(record).replace(b"\n", b"").replace(b"\r", b"").replace(b"\xef\xbb\xbf", b""))
+            continue
+        found = {}
+        for name, value in values_of(rng, form, record, told).items():
+            if spoils and rng.random() < 0.02:
+                value = rng.choice((None, True, -1, 1.5, 0, 2**64, [], {}, {"x": 1}, "", "x" * 257, 10**300, "9" * 30))
+            put(found, paths[name], value)
+        lines.append(json.dumps(found, ensure_ascii=rng.random() < 0.5).encode())
+        if rng.random() < 0.05:
+            lines[-1] = b"\xef\xbb\xbf " + lines[-1] + b"\r"
+    text = b"\n".join(lines) + (b"\n" if rng.random() < 0.8 else b"")
+    return text, {"jsonl": True, "field": fields, "kind": kinds}
+
+
+def values_of(rng, form, record, told):
+    """The values of a record's fields by their columns' names; a stamp as it may be written."""
+    least = 3 + form.width + (record[0] in model.NAMED)
+    values = {"kind": rng.choice(KIND_VALUES[record[0]]) if told else record[0].decode()}
+    values["node"] = record[1].decode("latin-1") if len(record) > 1 else None
+    values["reading"] = number_value(rng, record[2]) if len(record) > 2 else None
+    values |= stamp_values(rng, form, record[3 : 3 + form.width], "l", "c", "stamp")
+    values |= stamp_values(rng, form, carried_by(record), "carried_l", "carried_c", "carried")
+    if record[0] in model.NAMED and len(record) >= least:
+        values["message"] = record[least - 1].decode("latin-1")
+    if sender_of(record):
+        values["from"] = sender_of(record).decode("latin-1")
+    if len(record) > least:
+        values["label"] = record[least].decode("latin-1")
+    # (what isn't there, is null, or is empty is the same)
+    kept = [(name, value) for name, value in values.items() if value not in (None, "") or rng.random() < 0.3]
+    rng.shuffle(kept)
+    return dict(kept)
+
+
+def number_value(rng, field):
+    """A number, or its text."""
+    return int(field) if field.isdigit() and len(field) < 21 and not field.startswith(b"0") and rng.random() < 0.5 else field.decode("latin-1")
+
+
+def stamp_values(rng, form, fields, l, c, whole):
+    """The values of a stamp, if there is one: two fields may be one text as well."""
+    fields = [*fields]
+    if form.width == 1 and fields:
+        of_writer = b"/33" if fields[0] and rng.random() < 0.3 else b""
+        if form.dotted and rng.random() < 0.3:
+            fields[0] = fields[0].replace(b".", b":", 1)
+        return {whole: number_value(rng, fields[0]) if not of_writer else (fields[0] + of_writer).decode("latin-1")}
+    if len(fields) == 2 and all(fields) and rng.random() < 0.3:
+        return {whole: rng.choice((b":", b".")).join(fields).decode("latin-1")}
+    return {name: number_value(rng, field) for name, field in zip((l, c), fields)}
+
+
+def put(found, keys, value):
+    """Puts a value into an object, under the keys of its path."""
+    for key in keys[:-1]:
+        found = found.setdefault(key, {})
+    found[keys[-1]] = value
 
 
 NO_STAMPS = [b"", b"-1", b"1.", b".1", b"1.2.3", b"1.x", b"4294967296", b"1.4294967296", b"18446744073709551616", b"0" * 20 + b"1"]

@@ -1,7 +1,8 @@
 #!/usr/bin/env python3
 """A model of `hlc audit`, written from docs/FORMATS.md and not from the code.
 
-    .ci/audits/model.py [--packed B] [--dotted] [--tolerance D] [--receives RULE] [--unsent local] [--strict] [--limit D] < LOG
+    .ci/audits/model.py [--packed B] [--dotted] [--tolerance D] [--receives RULE] [--unsent local] [--strict] [--limit D]
+        [--jsonl [--field NAME=PATH].. [--kind WORD=VALUE,..]..] [--reading-unit UNIT --l-unit UNIT] < LOG
 
 It reads a log as bytes, and writes the report and ends with the status that the program has to have. It is plain and slow: each row is made
 from the events, their direct predecessors and the least stamps, as the document says it, and nothing is kept beside them.
@@ -10,6 +11,7 @@ from the events, their direct predecessors and the least stamps, as the document
 import argparse
 import bisect
 import collections
+import json
 import os
 import re
 import sys
@@ -26,11 +28,17 @@ NAMED = (b"send", b"receive")
 RECEIVES = TICK, MERGE, MERGE_CLOCK = "tick", "merge", "merge-clock"
 
 
-class Bad(Exception):
-    """The input isn't a log: the line, and why."""
+# The columns of a log of JSON lines, in the places that they have in its records.
+COLUMNS = (b"kind", b"node", b"reading", b"l", b"c", b"stamp", b"message", b"from", b"carried", b"carried_l", b"carried_c", b"label")
+# How many of a unit are a second.
+UNITS = {"s": 1, "ms": 10**3, "us": 10**6, "ns": 10**9, "ntp64": 2**32}
 
-    def __init__(self, line, why):
-        super().__init__(line, why)
+
+class Bad(Exception):
+    """The input isn't a log: the line, and why, which may be more than one word."""
+
+    def __init__(self, line, *why):
+        super().__init__(line, *why)
         self.line, self.why = line, why
 
 
@@ -87,6 +95,86 @@ def records(text):
         else:
             yield line, plain.split(b",")
         place = end
+
+
+# JSON lines
+
+
+class Json:
+    """Which value of a line is the field of a column, by its path, and which word a value of `kind` means."""
+
+    def __init__(self, fields=(), kinds=()):
+        self.paths = {name: [name.decode()] for name in COLUMNS}
+        self.words = {}
+        for text in fields:
+            name, path = os.fsdecode(text).split("=", 1)
+            self.paths[name.encode()] = path.split(".")[1:]
+        for text in kinds:
+            word, values = os.fsencode(text).split(b"=", 1)
+            for value in values.split(b","):
+                self.words.setdefault(value, word)
+        for word in KINDS:
+            self.words.setdefault(word, word)
+
+    def records(self, text):
+        """The records that the lines of a text stand for, each with its line."""
+        for place, line in enumerate(text.split(b"\n")):
+            line = line.removeprefix(b"\xef\xbb\xbf")
+            if line.strip(b" \t\r"):
+                yield place + 1, self.record(json_object(line))
+
+    def record(self, found):
+        """The record that tells what an object does, if that tells of an event."""
+        fields = {name: self.field(found, name) for name in COLUMNS}
+        fields[b"kind"] = self.words.get(fields[b"kind"])
+        if fields[b"kind"] is None:
+            return [b"skipped"]
+        for whole, l, c in ((b"stamp", b"l", b"c"), (b"carried", b"carried_l", b"carried_c")):
+            fields[whole] = fields[whole].split(b"/")[0].replace(b":", b".", 1)
+            if not fields[l] and not fields[c]:
+                fields[l], _, fields[c] = fields[whole].partition(b".")
+        return [*fields.values()]
+
+    def field(self, found, name):
+        """The text of the value at the path of a column."""
+        for key in self.paths[name]:
+            found = found.get(key) if isinstance(found, dict) else None
+        if isinstance(found, str):
+            return found.encode().replace(b"\\", b"\\\\").replace(b"\n", b"\\n").replace(b"\r", b"\\r")
+        if isinstance(found, Number):
+            return b"%d" % found.whole if found.whole is not None else b"-"
+        return b""
+
+
+class Number:
+    """A number of a JSON text, by what it is if it is whole and neither negative nor too great."""
+
+    def __init__(self, text):
+        whole = re.fullmatch("[0-9]+", text) and int(text) <= MOST_NUMBER
+        self.whole = int(text) if whole else None
+        if abs(float(text)) == float("inf"):
+            raise ValueError
+
+
+def json_object(line):
+    """The object that a line is, with its numbers as `Number`s; of any other line an empty one."""
+
+    def refuse(text):
+        raise ValueError
+
+    try:
+        found = json.loads(line.decode(), parse_int=Number, parse_float=Number, parse_constant=refuse)
+        json.dumps(found, ensure_ascii=False, default=lambda number: 0).encode()
+    except (ValueError, RecursionError):
+        return {}
+    return found if isinstance(found, dict) and depth(found) <= 128 else {}
+
+
+def depth(found):
+    """How deep arrays and objects stand in one another."""
+    if isinstance(found, (dict, list)):
+        return 1 + max(map(depth, found.values() if isinstance(found, dict) else found), default=0)
+    return 0
 
 
 def row(*cells):
@@ -156,12 +244,18 @@ class Event:
 class Log:
     """The events of a text in the order of the lines, the names of its nodes, and the questions among the records."""
 
-    def __init__(self, text, form, unsent_local=False, questions=False, tolerance=0, receives=TICK):
-        self.tolerance = tolerance
-        self.form, self.events, self.nodes, self.questions, self.unsent, self.header = form, [], {}, [], 0, None
-        for place, (line, fields) in enumerate(records(text)):
+    def __init__(self, text, form, unsent_local=False, questions=False, tolerance=0, receives=TICK, json=None, units=None):
+        self.tolerance, self.units, self.skipped = tolerance, units, []
+        self.form, self.events, self.nodes, self.questions, self.unsent, self.header = form, [], {}, [], 0, COLUMNS if json else None
+        for place, (line, fields) in enumerate(json.records(text) if json else records(text)):
+            if json and fields[0] in KINDS:
+                self.look_for_all(line, dict(zip(COLUMNS, fields)))
             if place == 0 and fields[0] == b"kind":
                 self.take_header(line, fields)
+            elif fields == [b"skipped"]:
+                self.skipped.append(line)
+            elif fields[0] == b"skipped":
+                raise Bad(line, "fields")
             elif questions and fields[0] in QUESTIONS:
                 self.questions.append(question(line, fields))
             else:
@@ -174,6 +268,33 @@ class Log:
             if event.claim is None:
                 event.stamp = given_stamp(event)
         self.give_least_stamps()
+
+    def look_for_all(self, line, under):
+        """Looks whether a record of JSON lines has what its event needs, and names the first column that it lacks."""
+        is_receive = under[b"kind"] == b"receive"
+        of_stamp = [under[name] for name in self.form.columns]
+        lacks = [b"node"] if not under[b"node"] else []
+        if not is_receive or any(of_stamp):
+            lacks += [name for name, field in zip(self.form.columns, of_stamp) if not field]
+        if is_receive and not under[b"message"]:
+            if not under[b"from"]:
+                lacks.append(b"message")
+            else:
+                lacks += [name for name in self.form.carried_columns if not under[name]]
+        if lacks:
+            raise Bad(line, "field", lacks[0])
+
+    def read(self, field):
+        """What a field says that a clock read, in the unit of L."""
+        if self.units is None:
+            return number(field, MOST_READING)
+        reading, of_reading, of_l = number(field), UNITS[self.units[0]], UNITS[self.units[1]]
+        if self.units[1] == "ntp64" and self.form.packed:
+            of_l = 2 ** max(32 - self.form.packed, 0)
+        if not reading:
+            return None
+        read = max(reading * of_l // of_reading, 1)
+        return read if read <= MOST_READING else None
 
     def take_header(self, line, fields):
         """Keeps the names of the columns, if all are there that each event needs."""
@@ -206,7 +327,7 @@ class Log:
         if len(fields) not in (least, least + 1):
             raise Bad(line, "fields")
         of_stamp = fields[3 : 3 + self.form.width]
-        reading, stamp = number(fields[2], MOST_READING), self.form.stamp(of_stamp)
+        reading, stamp = self.read(fields[2]), self.form.stamp(of_stamp)
         has_stamp = fields[0] != b"receive" or any(of_stamp)
         if fields[2] and not reading or has_stamp and stamp is None:
             raise Bad(line, "number")
@@ -420,6 +541,8 @@ def report(log, unsent_local=False, limit=None):
     unstamped = sum(event.claim is None for event in log.events)
     if unstamped:
         yield row("unstamped", unstamped)
+    if log.skipped:
+        yield row("skipped", len(log.skipped), log.skipped[0])
     for name, events in zip(names, of_nodes):
         over = [event for event in events if limit is not None and claimed_ahead(event) > limit]
         if over:
@@ -566,14 +689,30 @@ def answers(log, asked):
 
 
 def audit(
-    text, packed=None, dotted=False, tolerance=None, receives=None, unsent=None, strict=False, limit=None, questions=False, ask=(), with_report=False
+    text,
+    packed=None,
+    dotted=False,
+    tolerance=None,
+    receives=None,
+    unsent=None,
+    strict=False,
+    limit=None,
+    questions=False,
+    ask=(),
+    with_report=False,
+    jsonl=False,
+    field=(),
+    kind=(),
+    reading_unit=None,
+    l_unit=None,
 ):
     """What the program writes of a text, what it says to standard error, and its status."""
+    units, json_lines = (reading_unit, l_unit) if l_unit else None, Json(field, kind) if jsonl else None
     try:
-        log = Log(text, Form(packed, dotted), unsent == "local", questions, tolerance or 0, receives or TICK)
+        log = Log(text, Form(packed, dotted), unsent == "local", questions, tolerance or 0, receives or TICK, json_lines, units)
         asked = log.questions + [question(0, fields) for given in ask for _, fields in records(given)]
     except Bad as bad:
-        return row("bad", bad.line, bad.why), b"hlc: bad log\n", 4
+        return row("bad", bad.line, *bad.why), b"hlc: bad log\n", 4
     rows = b"".join(answers(log, asked))
     if not asked or with_report:
         rows = b"".join(report(log, unsent == "local", limit)) + rows
@@ -581,6 +720,8 @@ def audit(
         return rows, b"hlc: broken stamps\n", 3
     if limit is not None and over_limit(log, limit):
         return rows, b"hlc: over the limit\n", 3
+    if not log.events:
+        return rows, b"hlc: no events\n", 4 if strict else 0
     return rows, b"", 0
 
 
@@ -596,6 +737,11 @@ def main():
     line.add_argument("--questions", action="store_true", help="answer the questions among the records")
     line.add_argument("--ask", action="append", default=[], type=os.fsencode)
     line.add_argument("--report", action="store_true", dest="with_report")
+    line.add_argument("--jsonl", action="store_true")
+    line.add_argument("--field", action="append", default=[], type=os.fsencode)
+    line.add_argument("--kind", action="append", default=[], type=os.fsencode)
+    line.add_argument("--reading-unit", choices=[*UNITS][:4])
+    line.add_argument("--l-unit", choices=UNITS)
     rows, said, status = audit(sys.stdin.buffer.read(), **vars(line.parse_args()))
     sys.stdout.buffer.write(rows)
     sys.stderr.buffer.write(said)

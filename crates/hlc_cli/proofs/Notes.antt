@@ -4,8 +4,8 @@ use Rattle.std.specs.Prelude.{IfErr, IfOk, OnOk}
 use Rattle.clap.specs.Words.{Text}
 use Rattle.hlc_command_fault.specs.declared.command_fault.CommandFault.{CommandFault}
 use Rattle.hlc_command_fault.specs.declared.command_fault.CommandFault.TheVariants as command
+use Rattle.hlc_command_fault.specs.declared.no_events.NoEvents.{NoEvents}
 use Rattle.hlc_command_line.specs.declared.line_fault.LineFault.TheVariants as line
-use Rattle.hlc_script_commands.specs.declared.no_events.NoEvents.{NoEvents}
 use Rattle.hlc_cli.specs.Ended.{IsEnd}
 use Rattle.hlc_cli.specs.Fault.{IsOfAnswer, command_status, status_at_end, status_of}
 use Rattle.hlc_cli.specs.Program.{ArePerformed, ArePerformedBut, HaveNote, IsNoteAt, IsStop, unnoted}
@@ -33,6 +33,7 @@ command_has_status : (f : CommandFault) → command_status f ≡ 0 → ⊥
 command_has_status command.BrokenStamps zero = omega arith
 command_has_status command.OverLimit zero = omega arith
 command_has_status command.BadLog zero = omega arith
+command_has_status command.EmptyLog zero = omega arith
 command_has_status command.NoEvent zero = omega arith
 command_has_status command.Settings zero = omega arith
 command_has_status (command.Mismatch node) zero = omega arith
@@ -48,7 +49,8 @@ has_status (stop.Line line.Unsent) zero = omega arith
 has_status (stop.Line line.Receives) zero = omega arith
 has_status (stop.Line line.Question) zero = omega arith
 has_status (stop.Line (line.Sign option)) zero = omega arith
-has_status (stop.Line (line.Part mistake)) zero = omega arith
+has_status (stop.Line (line.Part m)) zero = omega arith
+has_status (stop.Line (line.Records m)) zero = omega arith
 has_status (stop.Line line.Memory) zero = omega arith
 has_status stop.Encoding zero = omega arith
 has_status (stop.Command fault) zero = command_has_status fault zero

@@ -3,19 +3,21 @@ use Rattle.std.specs.Prelude.{ℕ, ◌++◌, [], Err, IfSome, List, None, Ok, Op
 use Rattle.std.specs.Io.KnownBytes.{Appends}
 use Rattle.hlc_command_fault.specs.Fault.{IsOfAnswer as IsAnswered, IsOfInput as IsUnread, fault_text}
 use Rattle.hlc_command_fault.specs.declared.command_fault.CommandFault.{CommandFault}
+use Rattle.hlc_command_fault.specs.NoEvents.{note_text}
 use Rattle.hlc_command_fault.specs.declared.command_fault.CommandFault.TheVariants as command
+use Rattle.hlc_command_fault.specs.declared.no_events.NoEvents.{NoEvents}
 use Rattle.hlc_command_line.specs.Fault.{line_fault_text}
 use Rattle.hlc_command_line.specs.declared.line_fault.LineFault.TheVariants as line
-use Rattle.hlc_script_commands.specs.NoEvents.{note_text}
-use Rattle.hlc_script_commands.specs.declared.no_events.NoEvents.{NoEvents}
 use Rattle.hlc_cli.specs.declared.fault.Fault.{Fault}
 use Rattle.hlc_cli.specs.declared.fault.Fault.TheVariants as stop
 
--- the exit status of a command that stopped: 3 if stamps of a log are broken or over the limit, 4 if the input is no log, 1 for any other fault
+-- the exit status of a command that stopped: 3 if stamps of a log are broken or over the limit, 4 if the input is no log, or none with events, 1 for
+-- any other fault
 abbrev pub command_status : CommandFault → ℕ
 command_status command.BrokenStamps = 3
 command_status command.OverLimit = 3
 command_status command.BadLog = 4
+command_status command.EmptyLog = 4
 command_status command.NoEvent = 1
 command_status command.Settings = 1
 command_status (command.Mismatch node) = 1
@@ -72,7 +74,8 @@ abbrev pub IsOfInput : Fault → Type 0
 IsOfInput (stop.Command fault) = IsUnread fault
 IsOfInput _ = ⊥
 
--- the whole answer was written, and tells of the fault: an event is missing, the input is no log, or stamps in it are broken or over the limit
+-- the whole answer was written, and tells of the fault: an event is missing, the input is no log, or a log without events, or stamps in it are broken
+-- or over the limit
 abbrev pub IsOfAnswer : Fault → Type 0
 IsOfAnswer (stop.Command fault) = IsAnswered fault
 IsOfAnswer _ = ⊥

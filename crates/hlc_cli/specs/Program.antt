@@ -6,7 +6,7 @@ use Rattle.clap.specs.Words.{Text, subcommand_of, takes}
 use Rattle.clap.specs.declared.error.kind.ErrorKind.{ErrorKind}
 use Rattle.clap.specs.declared.error.kind.ErrorKind.TheVariants.{DisplayHelp, DisplayVersion}
 use Rattle.std.specs.Io.KnownBytes.{Appends}
-use Rattle.hlc_stamp.specs.declared.limits.TheConstants.{MAX_RECORDS}
+use Rattle.hlc_stamp.specs.declared.limits.TheConstants.{MAX_CAPACITY, MAX_RECORDS}
 use Rattle.hlc_seeded.specs.Storm.{storm_of}
 use Rattle.hlc_trace.specs.Trace.{IsJudged}
 use Rattle.hlc_text.specs.Steps.{printed_text}
@@ -17,13 +17,16 @@ use Rattle.hlc_command_line.specs.declared.line_order.HistoryPart.TheVariants as
 use Rattle.hlc_command_line.specs.declared.line_order.Order.{Order}
 use Rattle.hlc_command_line.specs.declared.line_order.Order.TheVariants as order
 use Rattle.hlc_command_fault.specs.declared.command_fault.CommandFault.{CommandFault}
+use Rattle.hlc_command_fault.specs.declared.no_events.NoEvents.{NoEvents}
 use Rattle.hlc_script_commands.specs.Answered.{IsScriptAnswered}
 use Rattle.hlc_script_commands.specs.Drawn.{IsChainDrawnBut, IsChainDrawnWhole, IsDrawnBut, IsDrawnWhole, IsScriptFor}
 use Rattle.hlc_script_commands.specs.NoEvents.{IsNoteOn}
 use Rattle.hlc_script_commands.specs.Traced.{IsScriptTraced}
-use Rattle.hlc_script_commands.specs.declared.no_events.NoEvents.{NoEvents}
-use Rattle.hlc_log_commands.specs.Audited.{IsAuditPassed, IsAuditedBut}
+use Rattle.hlc_log_commands.specs.Audited.{IsAuditPassed, IsAuditedBut, IsLogNote}
 use Rattle.hlc_log_commands.specs.DrawnLog.{IsLogDrawnBut, IsLogDrawnWhole}
+use Rattle.hlc_log_commands.specs.LogVectors.{HasVectors}
+use Rattle.hlc_log_commands.specs.Records.{records_in}
+use Rattle.hlc_log_commands.specs.Unopened.{IsUnopened}
 use Rattle.hlc_threads_command.specs.Played.{IsPlayed}
 use Rattle.hlc_cli.specs.declared.fault.Fault.{Fault}
 use Rattle.hlc_cli.specs.declared.fault.Fault.TheVariants as stop
@@ -48,8 +51,9 @@ IsDone input before after (order.Draw settings (history.Events explained from to
 IsDone input before after (order.Draw settings (history.Chain event)) = IsChainDrawnWhole settings event input before after
 IsDone input before after (order.Trace settings vector) = IsScriptTraced settings vector input before after
 IsDone input before after order.Judge = IsJudged MAX_RECORDS input before after
-IsDone input before after (order.Audit options asked) = IsAuditPassed options asked.items input before after
-IsDone input before after (order.DrawLog options) = IsLogDrawnWhole options input before after
+IsDone input before after (order.Audit options asked json) = IsAuditPassed options asked.items (records_in json input) before after
+IsDone input before after (order.DrawLog options json) = IsLogDrawnWhole options (records_in json input) before after
+IsDone input before after (order.Vectors records json) = HasVectors records (records_in json input) before after
 IsDone input before after (order.Storm nodes steps seed) = Appends before after (printed_text (storm_of seed nodes steps))
 IsDone input before after (order.Threads nodes steps seed limit) = IsPlayed nodes steps limit (storm_of seed nodes steps) before after
 
@@ -58,14 +62,17 @@ abbrev pub IsDoneBut : CommandFault → (input before after : Option (List ℕ))
 IsDoneBut fault input before after (order.Draw settings (history.Events explained from to)) =
     IsDrawnBut fault settings explained from to input before after
 IsDoneBut fault input before after (order.Draw settings (history.Chain event)) = IsChainDrawnBut fault settings event input before after
-IsDoneBut fault input before after (order.Audit options asked) = IsAuditedBut fault options asked.items input before after
-IsDoneBut fault input before after (order.DrawLog options) = IsLogDrawnBut fault options input before after
+IsDoneBut fault input before after (order.Audit options asked json) = IsAuditedBut fault options asked.items (records_in json input) before after
+IsDoneBut fault input before after (order.DrawLog options json) = IsLogDrawnBut fault options (records_in json input) before after
+IsDoneBut fault input before after (order.Vectors records json) = IsUnopened MAX_CAPACITY fault records (records_in json input) before after
 IsDoneBut fault input before after _ = ⊥
 
--- this is the note on an order that was done: the one on the script that was drawn or traced, and none on what another order asks for
+-- this is the note on an order that was done: the one on the script that was drawn or traced, or on the log that was audited, and none on what another
+-- order asks for
 abbrev pub IsNoteFor : (input : Option (List ℕ)) → Option NoEvents → Order → Type 0
 IsNoteFor input note (order.Draw settings part) = IsNoteOn settings input note
 IsNoteFor input note (order.Trace settings vector) = IsNoteOn settings input note
+IsNoteFor input note (order.Audit options asked json) = IsLogNote options (records_in json input) note
 IsNoteFor input note _ = note ≡ None
 
 -- what has no note, at its end
@@ -73,13 +80,14 @@ abbrev pub unnoted : {F : Type 0} → Result (Unit {0}) F → Result (Option NoE
 unnoted (Ok done) = Ok None
 unnoted (Err fault) = Err fault
 
--- an order that reads all of its input before it writes: for a picture, for the log of a script, for verdicts, or for the report on a log
+-- an order that reads all of its input before it writes: for a picture, for the log of a script, for verdicts, for the report on a log, or for its vectors
 abbrev pub ReadsFirst : Order → Type 0
 ReadsFirst (order.Draw settings part) = ⊤
 ReadsFirst (order.Trace settings vector) = ⊤
 ReadsFirst order.Judge = ⊤
-ReadsFirst (order.Audit options asked) = ⊤
-ReadsFirst (order.DrawLog options) = ⊤
+ReadsFirst (order.Audit options asked json) = ⊤
+ReadsFirst (order.DrawLog options json) = ⊤
+ReadsFirst (order.Vectors records json) = ⊤
 ReadsFirst _ = ⊥
 
 -- an order may write of this input: a picture or a log of a script is begun only if the script leaves a history
@@ -134,7 +142,8 @@ IsStop arguments (stop.Line fault.Unsent) = AskForMistake arguments fault.Unsent
 IsStop arguments (stop.Line fault.Receives) = AskForMistake arguments fault.Receives
 IsStop arguments (stop.Line fault.Question) = AskForMistake arguments fault.Question
 IsStop arguments (stop.Line (fault.Sign option)) = AskForMistake arguments (fault.Sign option)
-IsStop arguments (stop.Line (fault.Part mistake)) = AskForMistake arguments (fault.Part mistake)
+IsStop arguments (stop.Line (fault.Part m)) = AskForMistake arguments (fault.Part m)
+IsStop arguments (stop.Line (fault.Records m)) = AskForMistake arguments (fault.Records m)
 IsStop arguments (stop.Line fault.Memory) = ⊤
 IsStop arguments stop.Encoding = ⊥
 IsStop arguments (stop.Command fault) = ⊤

@@ -5,7 +5,7 @@
 //! - `perform` does what a command line asks for, writes the line of a fault or of a note if there is one, and gives the exit status, and
 //!   whether the line was written: an `Ended`.
 //! - `try_perform` does the same without the line, and gives the `Fault`, or the note: a script that is drawn or traced has records, and
-//!   none of them is an event (`NoEvents`).
+//!   none of them is an event, or a log that is audited has none (`NoEvents`).
 //! - `report` writes the line of a fault.
 //!
 //! The commands stand in crates of their own, for callers that have no command line: those of scripts in `hlc_script_commands`, those of
@@ -13,7 +13,7 @@
 //! asks for is found by `order`.
 //!
 //! Status 0 says that the arguments were performed, 2 that they were mistaken, 3 that the stamps of a log are broken or over the limit, 4
-//! that the input is no log, and 1 that something else failed. It opens no files: what a script, a trace or a log says comes from the reader.
+//! that the input is no log, or none with events in a strict audit, and 1 that something else failed. It opens no files: what a script, a trace or a log says comes from the reader.
 //!
 //! A first caller, proved in `hlc_program_examples`: the program within another program.
 //!
@@ -38,7 +38,6 @@ mod program;
 
 pub use ended::Ended;
 pub use fault::Fault;
-pub use hlc_command_fault::CommandFault;
+pub use hlc_command_fault::{CommandFault, NoEvents};
 pub use hlc_command_line::{LineFault, Order, order};
-pub use hlc_script_commands::NoEvents;
 pub use program::{perform, report, try_perform};

@@ -13,13 +13,11 @@ ghost use Rattle.hlc_cli.specs.Program.{AreMistaken, ArePerformed, ArePerformedB
 use crate::ended::Ended;
 use crate::fault::Fault;
 use clap::error::ErrorKind;
-use hlc_command_fault::CommandFault;
+use hlc_command_fault::{CommandFault, NoEvents};
 use hlc_command_line::{Hint, HistoryPart, LineFault, Order, hint_for, order, sign_hint};
 use hlc_csv::RecordsFault;
-use hlc_log_commands::{audit_log, draw_log};
-use hlc_script_commands::{
-    NoEvents, draw_script, draw_script_chain, print_storm, run_script, trace_script,
-};
+use hlc_log_commands::{audit_log, draw_log, vectors_of_log};
+use hlc_script_commands::{draw_script, draw_script_chain, print_storm, run_script, trace_script};
 use hlc_threads_command::play;
 use hlc_trace::judge_run;
 use std::fmt::Display;
@@ -102,10 +100,17 @@ fn dispatch<R: AllocGlobal + Threads + Wait + Sync, I: Read + Drop, O: Write>(
             judge_run(alloc, reader, writer)?;
             Ok(None)
         }
-        Order::Audit { options, asked } => {
-            unnoted(audit_log(alloc, reader, writer, options, &asked))
+        Order::Audit {
+            options,
+            asked,
+            json,
+        } => audit_log(alloc, reader, writer, options, &asked, json),
+        Order::DrawLog { options, json } => {
+            unnoted(draw_log(alloc, reader, writer, options, json))
         }
-        Order::DrawLog(options) => unnoted(draw_log(alloc, reader, writer, options)),
+        Order::Vectors { records, json } => unnoted(vectors_of_log(
+            alloc, reader, writer, records, json,
+        )),
         Order::Storm { nodes, steps, seed } => {
             unnoted(print_storm(alloc, nodes, steps, seed, writer))
         }
@@ -122,7 +127,8 @@ fn dispatch<R: AllocGlobal + Threads + Wait + Sync, I: Read + Drop, O: Write>(
 }
 
 /// Performs the arguments of a command line: does the order that they give, or shows the text that they ask for. `perform` tells the
-/// user of its faults, and of its note: a script that is drawn or traced has records, and none of them is an event.
+/// user of its faults, and of its note: a script that is drawn or traced has records, and none of them is an event, or a log that is audited has
+/// none.
 pub fn try_perform<R: AllocGlobal + Threads + Wait + Sync, I: Read + Drop, O: Write>(
     rt: &R,
     arguments: &[&str],
@@ -132,8 +138,8 @@ pub fn try_perform<R: AllocGlobal + Threads + Wait + Sync, I: Read + Drop, O: Wr
     ensures done { OnOk result (ArePerformed (texts arguments.now) (I.remaining reader) (O.contents writer.old) (O.contents writer.new)) }
     ensures noted { IfOk result (IsNoteAt (texts arguments.now) (I.remaining reader)) }
 
-    // If an event is named that isn't there, the input is not a log, or stamps in it are broken or over the limit, the rest is done: the
-    // picture is drawn, or the log audited, and the output says so.
+    // If an event is named that isn't there, the input is not a log, or has no event, or stamps in it are broken or over the limit, the rest is
+    // done: the picture is drawn, or the log audited, and the output says so.
     ensures told { IfErr result (λ fault. IsOfAnswer fault → ArePerformedBut fault (texts arguments.now)
         (I.remaining reader) (O.contents writer.old) (O.contents writer.new)) }
     ensures stopped { IfErr result (IsStop (texts arguments.now)) }
@@ -198,7 +204,7 @@ fn command_status(fault: CommandFault) -> u8
 {
     match fault {
         CommandFault::BrokenStamps | CommandFault::OverLimit => 3,
-        CommandFault::BadLog => 4,
+        CommandFault::BadLog | CommandFault::EmptyLog => 4,
         CommandFault::NoEvent
         | CommandFault::Settings
         | CommandFault::Mismatch(_)
@@ -284,9 +290,9 @@ fn end<E: Write>(
 
 /// Performs what a command line asks for, given its arguments, the first of which is the program's name, and tells how that ended: with
 /// status 0 if it was done, 1 for a fault, which a line on `errors` reports, 2 for a mistake in the arguments, which clap's text or a
-/// line on `errors` reports, 3 for a log whose stamps are broken or over the limit, and 4 for an input that is no log, each with its line.
-/// At status 0 a line on `errors` says so if a script that was drawn or traced has records, and none of them is an event. Where the line
-/// can't be written, the status is the same.
+/// line on `errors` reports, 3 for a log whose stamps are broken or over the limit, and 4 for an input that is no log, or, in a strict audit, one
+/// without events, each with its line. At status 0 a line on `errors` says so if a script that was drawn or traced has records, and none of them is
+/// an event, or if a log that was audited has none. Where the line can't be written, the status is the same.
 pub fn perform<R: AllocGlobal + Threads + Wait + Sync, I: Read + Drop, O: Write, E: Write>(
     rt: &R,
     arguments: &[&str],

@@ -22,6 +22,7 @@ draw_stop drawing.Memory = stop.Records records.Memory
 abbrev pub fault_text : CommandFault → List ℕ
 fault_text stop.NoEvent = codes "no such event"
 fault_text stop.BadLog = codes "bad log"
+fault_text stop.EmptyLog = codes "no events"
 fault_text stop.BrokenStamps = codes "broken stamps"
 fault_text stop.OverLimit = codes "over the limit"
 fault_text stop.Settings = codes "bad settings"
@@ -35,10 +36,12 @@ IsOfInput (stop.Records records.Read) = ⊤
 IsOfInput (stop.Records records.TooLong) = ⊤
 IsOfInput _ = ⊥
 
--- the whole answer was written, and tells of the fault: an event is missing, the input is no log, or stamps in it are broken or over the limit
+-- the whole answer was written, and tells of the fault: an event is missing, the input is no log, or a log without events, or stamps in it are broken
+-- or over the limit
 abbrev pub IsOfAnswer : CommandFault → Type 0
 IsOfAnswer stop.NoEvent = ⊤
 IsOfAnswer stop.BadLog = ⊤
+IsOfAnswer stop.EmptyLog = ⊤
 IsOfAnswer stop.BrokenStamps = ⊤
 IsOfAnswer stop.OverLimit = ⊤
 IsOfAnswer _ = ⊥

@@ -14,6 +14,8 @@ pub enum CommandFault {
     NoEvent,
     /// The input is no log. The row that says why was written.
     BadLog,
+    /// The log has no event, and its audit is strict. What is told of the log was written.
+    EmptyLog,
     /// In the log a stamp is behind or not above another one, or a message carried another stamp than its send. What is told of the log was written.
     BrokenStamps,
     /// In the log a drift exceeds the limit, or a claimed `l` is above its reading by more than that. What is told of the log was written.
@@ -42,6 +44,7 @@ impl fmt::Display for CommandFault {
             CommandFault::Records(cause) => return fmt::Display::fmt(&cause, f),
             CommandFault::NoEvent => "no such event",
             CommandFault::BadLog => "bad log",
+            CommandFault::EmptyLog => "no events",
             CommandFault::BrokenStamps => "broken stamps",
             CommandFault::OverLimit => "over the limit",
             CommandFault::Settings => "bad settings",

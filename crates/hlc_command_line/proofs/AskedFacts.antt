@@ -53,7 +53,8 @@ module _ (rows : List Row) where
   mistaken_options fault.Receives is = is
   mistaken_options fault.Question is = is
   mistaken_options (fault.Sign option) is = is
-  mistaken_options (fault.Part mistake) is = is
+  mistaken_options (fault.Part m) is = is
+  mistaken_options (fault.Records m) is = is
   mistaken_options fault.Memory is = tt
 
   pub mistaken_questions : (f : LineFault) → IsNoQuestion (texts_of_option rows ask) f → UnlessMemory (IsAuditMistake rows) f
@@ -64,7 +65,8 @@ module _ (rows : List Row) where
   mistaken_questions fault.Receives is = absurd is
   mistaken_questions fault.Question is = is
   mistaken_questions (fault.Sign option) is = absurd is
-  mistaken_questions (fault.Part mistake) is = absurd is
+  mistaken_questions (fault.Part m) is = absurd is
+  mistaken_questions (fault.Records m) is = absurd is
   mistaken_questions fault.Memory is = tt
 
   pub mistaken_audit : (name : Text) (f : LineFault) → name ≡ codes "audit" → UnlessMemory (IsAuditMistake rows) f → UnlessMemory (IsMistakeOf name rows) f
@@ -75,5 +77,6 @@ module _ (rows : List Row) where
   mistaken_audit name fault.Receives named is = inr (inl (named, is))
   mistaken_audit name fault.Question named is = inr (inl (named, is))
   mistaken_audit name (fault.Sign option) named is = absurd is
-  mistaken_audit name (fault.Part mistake) named is = inr (inl (named, is))
+  mistaken_audit name (fault.Part m) named is = inr (inl (named, is))
+  mistaken_audit name (fault.Records m) named is = inr (inl (named, is))
   mistaken_audit name fault.Memory named is = tt

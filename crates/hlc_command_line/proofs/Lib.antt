@@ -1,3 +1,5 @@
 pub mod App
 pub mod AskedFacts
 pub mod LineFacts
+mod JsonFacts
+mod UnitFacts

@@ -18,7 +18,7 @@ use Rattle.hlc_log_text.specs.Packed.{CanCount}
 use Rattle.hlc_log_text.specs.declared.packed_bits.PackedBits.{PackedBits}
 use Rattle.hlc_command_line.specs.LineOption.{AreUnsigned}
 use Rattle.hlc_command_line.specs.NumberOption.{IsNumberOf, IsOptionalNumber, IsSigned}
-use Rattle.hlc_command_line.specs.Line.{HasOptions, HasUnlessSigned, IsEntered, IsRefusal, IsRefusedFound, around_line, capacity, explain, explained_line, first_line, from, last_line, limit, line_app, nodes, number_names, packed, positive, receives_word, rows_around, seed, steps, subcommand_audit, subcommand_draw, subcommand_draw_log, subcommand_run, subcommand_storm, subcommand_threads, subcommand_trace, subcommands, to, tolerance}
+use Rattle.hlc_command_line.specs.Line.{HasOptions, HasUnlessSigned, IsEntered, IsRefusal, IsRefusedFound, around_line, capacity, explain, explained_line, first_line, from, last_line, limit, line_app, nodes, number_names, packed, positive, receives_word, rows_around, seed, steps, subcommand_audit, subcommand_draw, subcommand_draw_log, subcommand_run, subcommand_storm, subcommand_threads, subcommand_trace, subcommand_vectors, subcommands, to, tolerance}
 use Rattle.hlc_command_line.specs.declared.line_fault.LineFault.{LineFault}
 use Rattle.hlc_command_line.specs.declared.line_fault.LineFault.TheVariants as fault
 use Rattle.hlc_command_line.proofs.App.Each.{Each}
@@ -91,39 +91,16 @@ line_is_orderly =
     ) in
     let trace : IsOrderly subcommand_trace =
     ((refl, nodes_are_numbers), ((refl, capacity_is_number), ((refl, limit_is_number), ((refl, tt), tt)))) in
-    let audit : IsOrderly subcommand_audit = (
+    let audit : IsOrderly subcommand_audit = ((refl, packed_is_number), ((refl, tt), ((refl, tolerance_is_number), ((refl, tt), ((refl, tt), ((refl, tt), ((refl, tt), ((refl, tt), ((refl, tt), ((refl, tt), ((refl, tt), ((refl, limit_is_number), ((refl, tt), ((refl, tt), tt)))))))))))))) in
+    let draw_log : IsOrderly subcommand_draw_log = ((refl, packed_is_number), ((refl, tt), ((refl, tolerance_is_number), ((refl, tt), ((refl, tt), ((refl, tt), ((refl, tt), ((refl, tt), ((refl, tt), ((refl, tt), ((refl, positive_is_number explained_line.name), ((refl, positive_is_number first_line.name), ((refl, positive_is_number last_line.name), ((refl, positive_is_number around_line.name), ((refl, positive_is_number rows_around.name), ((refl, tt), tt)))))))))))))))) in
+    let vectors : IsOrderly subcommand_vectors = (
       (refl, packed_is_number),
-      ((refl, tt), ((refl, tolerance_is_number), ((refl, tt), ((refl, tt), ((refl, tt), ((refl, limit_is_number), ((refl, tt), ((refl, tt), tt)))))))),
-    ) in
-    let draw_log : IsOrderly subcommand_draw_log = (
-      (refl, packed_is_number),
-      (
-        (refl, tt),
-        (
-          (refl, tolerance_is_number),
-          (
-            (refl, tt),
-            (
-              (refl, tt),
-              (
-                (refl, positive_is_number explained_line.name),
-                (
-                  (refl, positive_is_number first_line.name),
-                  (
-                    (refl, positive_is_number last_line.name),
-                    ((refl, positive_is_number around_line.name), ((refl, positive_is_number rows_around.name), ((refl, tt), tt))),
-                  ),
-                ),
-              ),
-            ),
-          ),
-        ),
-      ),
+      ((refl, tt), ((refl, tolerance_is_number), ((refl, tt), ((refl, tt), ((refl, tt), ((refl, tt), ((refl, tt), ((refl, tt), ((refl, tt), tt))))))))),
     ) in
     let storm : IsOrderly subcommand_storm = ((refl, nodes_are_numbers), ((refl, steps_are_numbers), ((refl, seed_is_number), tt))) in
     let threads : IsOrderly subcommand_threads =
     ((refl, nodes_are_numbers), ((refl, steps_are_numbers), ((refl, seed_is_number), ((refl, limit_is_number), tt)))) in
-    (run, (draw, (trace, (tt, (audit, (draw_log, (storm, (threads, tt))))))))
+    (run, (draw, (trace, (tt, (audit, (draw_log, (vectors, (storm, (threads, tt)))))))))
 
 is_entered : (has missing : Bool) → check_kinds (not has && false) (not has && true) missing ≡ [] → has ≡ true
 is_entered true missing e = refl
@@ -178,8 +155,14 @@ each_unsigned rows (n, (c, (l, (k, (s, (e, (f, (t, (a, (r, (p, (d, none)))))))))
       (
         tt,
         (
-          (p, (tt, (d, (tt, (tt, (tt, (l, (tt, (tt, tt))))))))),
-          ((p, (tt, (d, (tt, (tt, (e, (f, (t, (a, (r, (tt, tt))))))))))), ((n, (k, (s, tt))), ((n, (k, (s, (l, tt)))), tt))),
+          (p, (tt, (d, (tt, (tt, (tt, (tt, (tt, (tt, (tt, (tt, (l, (tt, (tt, tt)))))))))))))),
+          (
+            (p, (tt, (d, (tt, (tt, (tt, (tt, (tt, (tt, (tt, (e, (f, (t, (a, (r, (tt, tt)))))))))))))))),
+            (
+              (p, (tt, (d, (tt, (tt, (tt, (tt, (tt, (tt, (tt, tt)))))))))),
+              ((n, (k, (s, tt))), ((n, (k, (s, (l, tt)))), tt)),
+            ),
+          ),
         ),
       ),
     ),
@@ -211,14 +194,17 @@ not_true false h = refl
 -- a mistake in the options is a reason to refuse the arguments
 pub mistake_refuses : (arguments : List Text) → fault_of line_app arguments ≡ [] → (f : LineFault)
     → IsRefusedFound (subcommand_of line_app arguments) f → IsRefusal arguments f
-mistake_refuses arguments none (fault.Line e) is = absurd (⊎_elim (λ drawn. drawn.1) (λ of_log. ⊎_elim (λ audit. audit.1) (λ drawn. drawn.1) of_log) is.3)
-mistake_refuses arguments none fault.Range is = absurd (⊎_elim (λ drawn. drawn.1) (λ of_log. ⊎_elim (λ audit. audit.1) (λ drawn. drawn.1) of_log) is.3)
+mistake_refuses arguments none (fault.Line e) is =
+    absurd (⊎_elim (λ drawn. drawn.1) (λ of_log. ⊎_elim (λ audit. audit.1) (λ read. ⊎_elim (λ drawn. drawn.1) (λ vectors. vectors.1) read) of_log) is.3)
+mistake_refuses arguments none fault.Range is =
+    absurd (⊎_elim (λ drawn. drawn.1) (λ of_log. ⊎_elim (λ audit. audit.1) (λ read. ⊎_elim (λ drawn. drawn.1) (λ vectors. vectors.1) read) of_log) is.3)
 mistake_refuses arguments none fault.Forms is = (none, is)
 mistake_refuses arguments none fault.Unsent is = (none, is)
 mistake_refuses arguments none fault.Receives is = (none, is)
 mistake_refuses arguments none fault.Question is = (none, is)
 mistake_refuses arguments none (fault.Sign option) is = (none, is)
-mistake_refuses arguments none (fault.Part mistake) is = (none, is)
+mistake_refuses arguments none (fault.Part m) is = (none, is)
+mistake_refuses arguments none (fault.Records m) is = (none, is)
 mistake_refuses arguments none fault.Memory is = tt
 
 pub on_ok : {T E P : Type 0} (r : Result T E) → P → OnOk r P

@@ -4,5 +4,7 @@ pub mod Hint
 pub mod NumberOption
 pub mod LineOption
 pub mod Subcommand
+pub mod JsonOptions
+pub mod UnitOptions
 pub mod Line
 pub mod Rules

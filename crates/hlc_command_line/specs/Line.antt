@@ -14,15 +14,20 @@ use Rattle.hlc_causality.specs.declared.receives.Receives.TheVariants as at_rece
 use Rattle.hlc_log_text.specs.declared.log_rules.LogRules.{LogRules}
 use Rattle.hlc_log_text.specs.declared.stamp_form.StampForm.{StampForm}
 use Rattle.hlc_log_text.specs.declared.stamp_form.StampForm.TheVariants.{Dotted, Packed, Pair}
+use Rattle.hlc_json_lines.specs.Rules.{field_of_text, kind_of_text}
 use Rattle.hlc_command_line.specs.Asked.{AreAsked, AsksNothing, ask, texts_of_option}
+use Rattle.hlc_command_line.specs.JsonOptions.{IsJsonOf, IsSyntaxOf, LacksMeaning, field, is_json_given, jsonl, kind}
 use Rattle.hlc_command_line.specs.LineOption.{HaveOptions, HaveUnlessSigned, IsFlagOf, IsOtherWord, IsWordOf, LineOption, flag, many, number, word}
 use Rattle.hlc_command_line.specs.NumberOption.{IsGiven, IsLeftOut, IsNumberOf, IsOptionalNumber, IsSignedAmong, NumberOption, optional, signed_option, unsigned_option}
 use Rattle.hlc_command_line.specs.Rules.{program_app}
 use Rattle.hlc_command_line.specs.Subcommand.{Subcommand, app_of_subcommand}
+use Rattle.hlc_command_line.specs.UnitOptions.{AreUnitsOf, IsUnitsMistake, l_unit, reading_unit}
 use Rattle.hlc_command_line.specs.declared.line_fault.LineFault.{LineFault}
 use Rattle.hlc_command_line.specs.declared.line_fault.LineFault.TheVariants as fault
 use Rattle.hlc_command_line.specs.declared.line_fault.PartMistake.{PartMistake}
-use Rattle.hlc_command_line.specs.declared.line_fault.PartMistake.TheVariants as mistake
+use Rattle.hlc_command_line.specs.declared.line_fault.PartMistake.TheVariants as part
+use Rattle.hlc_command_line.specs.declared.line_fault.RecordsMistake.{RecordsMistake}
+use Rattle.hlc_command_line.specs.declared.line_fault.RecordsMistake.TheVariants as mistake
 use Rattle.hlc_command_line.specs.declared.line_order.AuditOptions.{AuditOptions}
 use Rattle.hlc_command_line.specs.declared.line_order.DrawLogOptions.{DrawLogOptions}
 use Rattle.hlc_command_line.specs.declared.line_order.HistoryPart.{HistoryPart}
@@ -143,10 +148,15 @@ subcommand_trace = record { name = codes "trace"; options = settings_options ++ 
 abbrev pub subcommand_judge : Subcommand
 subcommand_judge = record { name = codes "judge"; options = [] }
 
+-- how the records of a log are read
+abbrev pub record_options : List LineOption
+record_options =
+    number packed ∷ flag dotted ∷ number tolerance ∷ word receives ∷ word unsent ∷ flag jsonl ∷ many field ∷ many kind ∷ word reading_unit
+    ∷ word l_unit ∷ []
+
 -- how a log is read and audited
 abbrev pub log_options : List LineOption
-log_options =
-    number packed ∷ flag dotted ∷ number tolerance ∷ word receives ∷ word unsent ∷ flag strict ∷ number limit ∷ many ask ∷ flag report ∷ []
+log_options = record_options ++ flag strict ∷ number limit ∷ many ask ∷ flag report ∷ []
 
 abbrev pub subcommand_audit : Subcommand
 subcommand_audit = record { name = codes "audit"; options = log_options }
@@ -158,10 +168,13 @@ part_options =
 
 -- how a log is read, and what of it is drawn
 abbrev pub draw_log_options : List LineOption
-draw_log_options = number packed ∷ flag dotted ∷ number tolerance ∷ word receives ∷ word unsent ∷ part_options
+draw_log_options = record_options ++ part_options
 
 abbrev pub subcommand_draw_log : Subcommand
 subcommand_draw_log = record { name = codes "draw-log"; options = draw_log_options }
+
+abbrev pub subcommand_vectors : Subcommand
+subcommand_vectors = record { name = codes "vectors"; options = record_options }
 
 -- the options of a seeded script
 abbrev pub seeded_options : List LineOption
@@ -176,8 +189,8 @@ subcommand_threads = record { name = codes "threads"; options = seeded_options +
 -- the subcommands of `hlc`
 abbrev pub subcommands : List Subcommand
 subcommands =
-    subcommand_run ∷ subcommand_draw ∷ subcommand_trace ∷ subcommand_judge ∷ subcommand_audit ∷ subcommand_draw_log ∷ subcommand_storm
-    ∷ subcommand_threads ∷ []
+    subcommand_run ∷ subcommand_draw ∷ subcommand_trace ∷ subcommand_judge ∷ subcommand_audit ∷ subcommand_draw_log ∷ subcommand_vectors
+    ∷ subcommand_storm ∷ subcommand_threads ∷ []
 
 -- the options that take numbers
 abbrev pub number_names : List Text
@@ -201,6 +214,7 @@ subcommand_named named.Trace = subcommand_trace
 subcommand_named named.Judge = subcommand_judge
 subcommand_named named.Audit = subcommand_audit
 subcommand_named named.DrawLog = subcommand_draw_log
+subcommand_named named.Vectors = subcommand_vectors
 subcommand_named named.Storm = subcommand_storm
 subcommand_named named.Threads = subcommand_threads
 
@@ -255,13 +269,24 @@ pub record AreLogRules (rows : List Row) (given : LogRules) : Type 0 where
   pub tolerance_is : IsNumberOr rows tolerance 0 given.tolerance
   pub receives_are : IsReceivesOf rows given.receives
   pub unsent_is : IsWordOf rows unsent (codes "local") given.unsent_local
+  pub syntax_is : IsSyntaxOf rows given.syntax
+  pub units_are : AreUnitsOf rows given.units
+
+-- what of how records are read no order says: `--field` or `--kind` is given without `--jsonl`, or with a text that says none; or there are no units
+abbrev pub IsRecordsMistake : List Row → RecordsMistake → Type 0
+IsRecordsMistake rows mistake.WithoutJson = IsFlagOf rows jsonl false × (is_json_given rows ≡ true)
+IsRecordsMistake rows mistake.Field = LacksMeaning field_of_text (texts_of_option rows field)
+IsRecordsMistake rows mistake.Kind = LacksMeaning kind_of_text (texts_of_option rows kind)
+IsRecordsMistake rows m = IsUnitsMistake (first_of reading_unit rows) (first_of l_unit rows) m
 
 -- no rules say how records are read: stamps have two forms, or `--receives` has another word than `tick`, `merge` and `merge-clock`, or `--unsent`
--- another one than `local`
+-- another one than `local`, or no records are read so
 abbrev pub IsRulesMistake : List Row → LineFault → Type 0
-IsRulesMistake rows f =
-    ((f ≡ fault.Forms) × AreTwoForms rows)
-    ⊎ (((f ≡ fault.Receives) × IsNoReceives rows) ⊎ ((f ≡ fault.Unsent) × IsOtherWord rows unsent (codes "local")))
+IsRulesMistake rows fault.Forms = AreTwoForms rows
+IsRulesMistake rows fault.Receives = IsNoReceives rows
+IsRulesMistake rows fault.Unsent = IsOtherWord rows unsent (codes "local")
+IsRulesMistake rows (fault.Records m) = IsRecordsMistake rows m
+IsRulesMistake rows _ = ⊥
 
 -- the options of `audit` are what was given
 pub record AreAuditOptions (rows : List Row) (given : AuditOptions) : Type 0 where
@@ -294,9 +319,10 @@ IsOrderOf name rows (order.Run settings) = (name ≡ codes "run") × AreSettings
 IsOrderOf name rows (order.Draw settings part) = (name ≡ codes "draw") × AreSettings rows settings × IsHistoryPart rows part
 IsOrderOf name rows (order.Trace settings v) = (name ≡ codes "trace") × AreSettings rows settings × IsFlagOf rows vector v
 IsOrderOf name rows order.Judge = name ≡ codes "judge"
-IsOrderOf name rows (order.Audit options asked) =
-    (name ≡ codes "audit") × AreAuditOptions rows options × AreAsked (texts_of_option rows ask) asked.items
-IsOrderOf name rows (order.DrawLog options) = (name ≡ codes "draw-log") × AreDrawLogOptions rows options
+IsOrderOf name rows (order.Audit options asked json) =
+    (name ≡ codes "audit") × AreAuditOptions rows options × AreAsked (texts_of_option rows ask) asked.items × IsJsonOf rows json
+IsOrderOf name rows (order.DrawLog options json) = (name ≡ codes "draw-log") × AreDrawLogOptions rows options × IsJsonOf rows json
+IsOrderOf name rows (order.Vectors records json) = (name ≡ codes "vectors") × AreLogRules rows records × IsJsonOf rows json
 IsOrderOf name rows (order.Storm n k s) = (name ≡ codes "storm") × AreSeeded rows n k s
 IsOrderOf name rows (order.Threads n k s l) = (name ≡ codes "threads") × AreSeeded rows n k s × IsOptionalNumber rows limit l
 
@@ -306,41 +332,36 @@ IsOrderFound found o = (name : Text) × (rows : List Row) × (found ≡ Some (na
 
 -- what of the options of `audit` no order says: no rules say how its records are read, or an `--ask` asks nothing
 abbrev pub IsAuditMistake : List Row → LineFault → Type 0
-IsAuditMistake rows fault.Forms = AreTwoForms rows
-IsAuditMistake rows fault.Receives = IsNoReceives rows
-IsAuditMistake rows fault.Unsent = IsOtherWord rows unsent (codes "local")
 IsAuditMistake rows fault.Question = AsksNothing (texts_of_option rows ask)
-IsAuditMistake rows _ = ⊥
+IsAuditMistake rows f = IsRulesMistake rows f
 
 -- what of a part of a history no order says: `--only-chain` is given without `--explain`, or with an event at which others begin or end
 abbrev pub IsHistoryMistake : List Row → LineFault → Type 0
-IsHistoryMistake rows (fault.Part mistake.ChainOfNone) = IsFlagOf rows only_chain true × IsLeftOut rows explain
-IsHistoryMistake rows (fault.Part mistake.ChainAndRows) = IsFlagOf rows only_chain true × (IsGiven rows from ⊎ IsGiven rows to)
+IsHistoryMistake rows (fault.Part part.ChainOfNone) = IsFlagOf rows only_chain true × IsLeftOut rows explain
+IsHistoryMistake rows (fault.Part part.ChainAndRows) = IsFlagOf rows only_chain true × (IsGiven rows from ⊎ IsGiven rows to)
 IsHistoryMistake rows _ = ⊥
 
 -- what of a part of a log no order says: `--rows` is given without `--around`, or this with `--from` or `--to`; or `--only-chain` without
 -- `--explain`, or with an option of rows
 abbrev pub IsPartMistake : List Row → PartMistake → Type 0
-IsPartMistake rows mistake.RowsAlone = IsGiven rows rows_around × IsLeftOut rows around_line
-IsPartMistake rows mistake.AroundBetween = IsGiven rows around_line × (IsGiven rows first_line ⊎ IsGiven rows last_line)
-IsPartMistake rows mistake.ChainOfNone = IsFlagOf rows only_chain true × IsLeftOut rows explained_line
-IsPartMistake rows mistake.ChainAndRows =
+IsPartMistake rows part.RowsAlone = IsGiven rows rows_around × IsLeftOut rows around_line
+IsPartMistake rows part.AroundBetween = IsGiven rows around_line × (IsGiven rows first_line ⊎ IsGiven rows last_line)
+IsPartMistake rows part.ChainOfNone = IsFlagOf rows only_chain true × IsLeftOut rows explained_line
+IsPartMistake rows part.ChainAndRows =
     IsFlagOf rows only_chain true × (IsGiven rows around_line ⊎ (IsGiven rows first_line ⊎ IsGiven rows last_line))
 
 -- what of how a log is to be drawn no order says: no rules say how its records are read, or no part is drawn so
 abbrev pub IsLogMistake : List Row → LineFault → Type 0
-IsLogMistake rows fault.Forms = AreTwoForms rows
-IsLogMistake rows fault.Receives = IsNoReceives rows
-IsLogMistake rows fault.Unsent = IsOtherWord rows unsent (codes "local")
-IsLogMistake rows (fault.Part mistake) = IsPartMistake rows mistake
-IsLogMistake rows _ = ⊥
+IsLogMistake rows (fault.Part m) = IsPartMistake rows m
+IsLogMistake rows f = IsRulesMistake rows f
 
--- what of the options of the subcommand of this name no order says: a number with a sign; the others are of `draw`, `audit` or `draw-log`
+-- what of the options of the subcommand of this name no order says: a number with a sign; the others are of `draw`, `audit`, `draw-log` or `vectors`
 abbrev pub IsMistakeOf : Text → List Row → LineFault → Type 0
 IsMistakeOf name rows (fault.Sign option) = IsSignedAmong rows number_names option.now
 IsMistakeOf name rows f =
     ((name ≡ codes "draw") × IsHistoryMistake rows f)
-    ⊎ (((name ≡ codes "audit") × IsAuditMistake rows f) ⊎ ((name ≡ codes "draw-log") × IsLogMistake rows f))
+    ⊎ (((name ≡ codes "audit") × IsAuditMistake rows f)
+    ⊎ (((name ≡ codes "draw-log") × IsLogMistake rows f) ⊎ ((name ≡ codes "vectors") × IsRulesMistake rows f)))
 
 -- the same of the subcommand that was found
 abbrev pub IsMistakeFound : Option (Text × List Row) → LineFault → Type 0
@@ -402,6 +423,7 @@ IsRefusal arguments fault.Unsent = AskForMistake arguments fault.Unsent
 IsRefusal arguments fault.Question = AskForMistake arguments fault.Question
 IsRefusal arguments fault.Receives = AskForMistake arguments fault.Receives
 IsRefusal arguments (fault.Sign option) = AskForMistake arguments (fault.Sign option)
-IsRefusal arguments (fault.Part mistake) = AskForMistake arguments (fault.Part mistake)
+IsRefusal arguments (fault.Part m) = AskForMistake arguments (fault.Part m)
+IsRefusal arguments (fault.Records m) = AskForMistake arguments (fault.Records m)
 IsRefusal arguments fault.Range = AskForTurned arguments
 IsRefusal arguments fault.Memory = ⊤

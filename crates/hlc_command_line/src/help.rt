@@ -104,7 +104,13 @@ it names the columns: `node`, `reading`, `l` and `c` or `stamp`, `message` and `
 message carried, in `carried_l` and `carried_c`, or `carried`; then no record need send the message. It may name the node that sent, in
 `from`, in place of the message, and a send may then leave `message` empty. With `--tolerance D` a reading
 above L by at most D is taken as L, and one farther above as D less. With `--receives merge` a clock that receives takes the greater of
-its stamp and the message's, and isn't read; with `merge-clock` it is read as well. The answer has these rows, with lines counted from 1:
+its stamp and the message's, and isn't read; with `merge-clock` it is read as well.
+
+With `--jsonl` each line is a JSON object, and a column is its value of that name: `l` is at `.l`, unless `--field l=.hlc.l` says where else.
+A line whose `kind` is none of these words is left out, unless `--kind send=posted,sent` says that it means one. With `--reading-unit ms
+--l-unit ns` readings are in another unit of time than L: s, ms, us or ns; and L may be in ntp64, as uhlc's is with `--packed 4`.
+
+The answer has these rows, with lines counted from 1:
   count,VERDICT,N                    so many events have a verdict, by the words of `hlc judge`, or `carried`: ahead of a full C
   cause,LINE,NODE,behind             the clock broke its rule: L is below the reading, or what came from outside carried no lower stamp
   cause,LINE,NODE,not-above,BEFORE   it did: the event on line BEFORE, its node's last or the send, has no lower stamp
@@ -118,9 +124,11 @@ its stamp and the message's, and isn't read; with `merge-clock` it is read as we
   outside,N                          so many receives tell what was carried by a message that no record sends, if there are some
   unread,N                           so many events have no reading, if there are some
   unstamped,N                        so many receives have no stamp, if there are some
+  skipped,N,LINE                     so many records were left out, if there are some, and the first line of them
   over,NODE,N,LINE,AHEAD,ORIGIN      with `--limit D`, N events claim an L more than D above their reading: the first line of them, and
                                      how far the furthest is ahead, and the line where that L came in
-If the input is no log, the answer is the one row `bad,LINE,WHY`, and the status is 4.
+If the input is no log, the answer is the one row `bad,LINE,WHY`, and the status is 4; an object lacks a column if it is
+`bad,LINE,field,NAME`. If the log has no event, a line on standard error says so, and with `--strict` the status is 4.
 
 Questions, as records of the log or each by `--ask`, are answered in place of that, or after it with `--report`:
   explain,LINE  check,LINE,LINE..  relation,LINE,LINE  influenced,LINE  drift,NODE   as `hlc run` does, by lines
@@ -146,6 +154,22 @@ the answer is the one row `bad,LINE,WHY`, and the status is 4.
 Example:
   printf 'local,a,10,10,0\\nlocal,a,10,11,0\\n' | hlc draw-log > log.svg
 draws two dots on the lane of `a`, the second with a ring.";
+
+pub const VECTORS: &str =
+    "Writes a log of claimed stamps from standard input with vector clocks, for tools that draw logs";
+
+pub const LOG_VECTORS: &str = "\
+The log is that of `hlc audit`. For each event there are two lines, as ShiViz reads them: its node with its vector clock, counted from the
+messages of the log, and a row:
+  NODE {\"NODE\":COUNT, \"NODE\":COUNT}
+  WORD,LINE,NODE,READING,L,C[,LABEL]
+A send stands above its receives. What the log doesn't tell is empty. A label with a byte other than printable ASCII is left out. If a name has
+such a byte, a blank, or one of the characters `\"`, `\\` and `~`, an underscore stands for it, and `~` and a number follow. If the input is no
+log, the answer is the one row `bad,LINE,WHY`, and the status is 4.
+
+Example:
+  printf 'send,a,10,10,0,m\\nreceive,b,5,10,1,m\\n' | hlc vectors
+answers `b {\"a\":1, \"b\":1}` above the row `receive,2,b,5,10,1`.";
 
 pub const STORM: &str = "Prints a script of writes, erasures and messages, drawn from a seed";
 

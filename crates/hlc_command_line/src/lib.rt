@@ -5,7 +5,8 @@
 //!
 //! - `order` reads the arguments.
 //! - `Order` is what they ask for, one variant for each subcommand; `AuditOptions` is what `audit` is given, and `DrawLogOptions` what
-//!   `draw-log` is. `HistoryPart` and `LogPart` say what of a history or a log is drawn.
+//!   `draw-log` is, with how lines of JSON are read, if the log has them. `HistoryPart` and `LogPart` say what of a history or a log is
+//!   drawn.
 //! - `LineFault` is a mistake in the arguments, or a text that they ask for, such as the help.
 //! - `hint_for` says what else the user is told of arguments that are refused: a range of numbers, or where a log is read from.
 //!
@@ -34,6 +35,7 @@ mod cluster_options;
 mod help;
 mod hint;
 mod history_options;
+mod json_options;
 mod line;
 mod line_command;
 mod line_fault;
@@ -44,10 +46,11 @@ mod number_signs;
 mod option_rule;
 mod option_value;
 mod subcommand_rule;
+mod unit_options;
 
 pub use hint::{Hint, hint_for, sign_hint};
 pub use line::order;
-pub use line_fault::{LineFault, PartMistake};
+pub use line_fault::{LineFault, PartMistake, RecordsMistake};
 pub use line_order::{
     AuditOptions, DrawLogOptions, HistoryPart, LogPart, LogRows, Order, USUAL_ROWS,
 };

@@ -4,15 +4,16 @@ ghost use Rattle.std.specs.Prelude.{IfErr, IfOk, IsTrue, OnOk, [], codes, ◌↔
 ghost use Rattle.clap.specs.Words.{found_of, rows_of, subcommand_of, subcommand_rows_of};
 ghost use Rattle.clap.specs.Walk.{texts};
 ghost use Rattle.hlc_command_line.specs.LineOption.{HaveOptions};
-ghost use Rattle.hlc_command_line.specs.Line.{HasOptions, IsAbove, IsAuditMistake, IsEntered, IsMistakeOf, IsOrderFound, IsOrderOf, IsRefusal, IsRefusedFound, IsTurned, UnlessMemory, draw_log_options, draw_options, line_app, line_faults, log_options};
+ghost use Rattle.hlc_command_line.specs.Line.{HasOptions, IsAbove, IsAuditMistake, IsEntered, IsMistakeOf, IsOrderFound, IsOrderOf, IsRefusal, IsRefusedFound, IsTurned, UnlessMemory, draw_log_options, draw_options, line_app, line_faults, log_options, record_options};
 
 use crate::asked::asked_questions;
 use crate::cluster_options::{Seeded, seeded_numbers, settings};
 use crate::history_options::history_part;
+use crate::json_options::json_rules;
 use crate::line_command::line_command;
 use crate::line_fault::LineFault;
 use crate::line_order::{HistoryPart, Order};
-use crate::log_options::audit_options;
+use crate::log_options::{audit_options, log_rules};
 use crate::log_part::draw_log_options;
 use crate::number_signs::{NUMBER_NAMES, signed_option};
 use crate::option_value::{drift_limit, flag};
@@ -40,20 +41,37 @@ fn audit_order(alloc: Global, options: &ArgMatches<'_>) -> Result<Order, LineFau
 {
     let audit = audit_options(options)?;
     let asked = asked_questions(alloc, options)?;
+    let json = json_rules(alloc, options)?;
     Ok(Order::Audit {
         options: audit,
         asked,
+        json,
     })
 }
 
 // The order of `draw-log`.
-fn draw_log_order(options: &ArgMatches<'_>) -> Result<Order, LineFault>
+fn draw_log_order(alloc: Global, options: &ArgMatches<'_>) -> Result<Order, LineFault>
     requires { HaveOptions (rows_of (found_of options.now)) draw_log_options }
     ensures found { IfOk result (IsOrderOf (codes "draw-log") (rows_of (found_of options.now))) }
     ensures mistaken { IfErr result (UnlessMemory (IsMistakeOf (codes "draw-log") (rows_of (found_of options.now)))) }
 {
     let drawn = draw_log_options(options)?;
-    Ok(Order::DrawLog(drawn))
+    let json = json_rules(alloc, options)?;
+    Ok(Order::DrawLog {
+        options: drawn,
+        json,
+    })
+}
+
+// The order of `vectors`.
+fn vectors_order(alloc: Global, options: &ArgMatches<'_>) -> Result<Order, LineFault>
+    requires { HaveOptions (rows_of (found_of options.now)) record_options }
+    ensures found { IfOk result (IsOrderOf (codes "vectors") (rows_of (found_of options.now))) }
+    ensures mistaken { IfErr result (UnlessMemory (IsMistakeOf (codes "vectors") (rows_of (found_of options.now)))) }
+{
+    let records = log_rules(options)?;
+    let json = json_rules(alloc, options)?;
+    Ok(Order::Vectors { records, json })
 }
 
 // The order of a subcommand with its options.
@@ -71,7 +89,8 @@ fn order_of(alloc: Global, name: &str, options: &ArgMatches<'_>) -> Result<Order
         }),
         "judge" => Ok(Order::Judge),
         "audit" => audit_order(alloc, options),
-        "draw-log" => draw_log_order(options),
+        "draw-log" => draw_log_order(alloc, options),
+        "vectors" => vectors_order(alloc, options),
         "storm" => {
             let Seeded { nodes, steps, seed } = seeded_numbers(options);
             Ok(Order::Storm { nodes, steps, seed })

@@ -34,6 +34,45 @@ impl fmt::Display for PartMistake {
     }
 }
 
+/// Why options say of no way that the records of a log are read so.
+#[derive(Clone, Copy, Debug, Error)]
+pub enum RecordsMistake {
+    /// It is said how lines of JSON are read, but not that the log has them.
+    WithoutJson,
+    /// A text is given for where lines of JSON have a column that doesn't say it.
+    Field,
+    /// A text is given for which values mean a word that doesn't say it.
+    Kind,
+    /// The unit of readings is given without that of `l`, or this without that.
+    UnitAlone,
+    /// A word is given for the unit of readings that names none.
+    ReadingUnit,
+    /// A word is given for the unit of `l` that names none.
+    LUnit,
+}
+
+impl fmt::Display for RecordsMistake {
+    ghost use Rattle.std.specs.Prelude.{Some};
+    ghost use Rattle.hlc_command_line.specs.Fault.{records_mistake_text};
+
+    ghost output = { λ mistake. Some (records_mistake_text mistake) };
+
+    fn fmt<W: fmt::Write>(&self, f: &mut fmt::Formatter<W>) -> fmt::Result {
+        f.write_str(match self {
+            RecordsMistake::WithoutJson => "--field and --kind need --jsonl",
+            RecordsMistake::Field => {
+                "--field takes NAME=PATH, as l=.hlc.l, of kind, node, reading, l, c, stamp, message, from, carried, carried_l, carried_c or label"
+            }
+            RecordsMistake::Kind => {
+                "--kind takes WORD=VALUE,VALUE.., as send=posted,sent, of local, send, receive or restart"
+            }
+            RecordsMistake::UnitAlone => "--reading-unit and --l-unit need one another",
+            RecordsMistake::ReadingUnit => "--reading-unit takes `s`, `ms`, `us` or `ns`",
+            RecordsMistake::LUnit => "--l-unit takes `s`, `ms`, `us`, `ns` or `ntp64`",
+        })
+    }
+}
+
 /// Why a command line gives no order.
 #[derive(Debug, Drop, Error)]
 pub enum LineFault {
@@ -53,6 +92,8 @@ pub enum LineFault {
     Question,
     /// No part of a history or a log is drawn so.
     Part(PartMistake),
+    /// The records of no log are read so.
+    Records(RecordsMistake),
     /// An allocation was refused.
     Memory,
 }
@@ -66,6 +107,7 @@ impl fmt::Display for LineFault {
         let text = match self {
             LineFault::Line(error) => return fmt::Display::fmt(error, f),
             LineFault::Part(mistake) => return fmt::Display::fmt(mistake, f),
+            LineFault::Records(mistake) => return fmt::Display::fmt(mistake, f),
             LineFault::Sign(option) => {
                 return write!(f, "--{option} takes a whole number without a sign");
             }

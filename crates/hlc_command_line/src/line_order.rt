@@ -1,3 +1,4 @@
+use hlc_json_lines::JsonRules;
 use hlc_log_text::{LogQuestion, LogRules};
 use hlc_stamp::{EventId, Settings};
 
@@ -108,9 +109,23 @@ pub enum Order {
         options: AuditOptions,
         /// What is asked beside the log.
         asked: Vec<LogQuestion>,
+        /// How its lines are read, if they are JSON.
+        json: Option<JsonRules>,
     },
     /// Draw a log of another system.
-    DrawLog(DrawLogOptions),
+    DrawLog {
+        /// How it is read, and what of it is drawn.
+        options: DrawLogOptions,
+        /// How its lines are read, if they are JSON.
+        json: Option<JsonRules>,
+    },
+    /// Write a log of another system with the vectors of its events.
+    Vectors {
+        /// How its records are read.
+        records: LogRules,
+        /// How its lines are read, if they are JSON.
+        json: Option<JsonRules>,
+    },
     /// Print the script that is drawn from a seed.
     Storm {
         /// How many nodes there are.

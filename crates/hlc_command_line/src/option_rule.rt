@@ -248,3 +248,47 @@ pub(crate) const REPORT: OptionRule = OptionRule {
     text: "Also writes the report if something is asked",
     takes: Takes::Nothing,
 };
+
+pub(crate) const JSONL: OptionRule = OptionRule {
+    name: "jsonl",
+    text: "The log is lines of JSON: each object tells of an event",
+    takes: Takes::Nothing,
+};
+
+pub(crate) const FIELD: OptionRule = OptionRule {
+    name: "field",
+    text: "With --jsonl, the path of a column's value in an object, as node=.fields.host; it may be given more than once",
+    takes: Takes::Many {
+        value: "NAME=PATH",
+        parser: ValueParser::String,
+    },
+};
+
+pub(crate) const KIND: OptionRule = OptionRule {
+    name: "kind",
+    text: "With --jsonl, values of `kind` that mean a word, as send=posted,sent; it may be given more than once",
+    takes: Takes::Many {
+        value: "WORD=VALUE,VALUE",
+        parser: ValueParser::String,
+    },
+};
+
+pub(crate) const READING_UNIT: OptionRule = OptionRule {
+    name: "reading-unit",
+    text: "With --l-unit, the unit of readings: s, ms, us or ns",
+    takes: Takes::One {
+        value: "UNIT",
+        parser: ValueParser::String,
+        required: false,
+    },
+};
+
+pub(crate) const L_UNIT: OptionRule = OptionRule {
+    name: "l-unit",
+    text: "With --reading-unit, the unit of L: s, ms, us, ns or ntp64",
+    takes: Takes::One {
+        value: "UNIT",
+        parser: ValueParser::String,
+        required: false,
+    },
+};

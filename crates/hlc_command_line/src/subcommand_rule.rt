@@ -5,9 +5,9 @@ ghost use Rattle.hlc_command_line.specs.Subcommand.{app_of_subcommand};
 
 use crate::help;
 use crate::option_rule::{
-    AROUND_LINE, ASK, AUDIT_LIMIT, CAPACITY, DOTTED, EXPLAIN, EXPLAIN_LINE, FROM, FROM_LINE, LIMIT,
-    NODES, ONLY_CHAIN, OptionRule, PACKED, RECEIVES, REPORT, ROWS, SEED, STEPS, STRICT, TO,
-    TO_LINE, TOLERANCE, UNSENT, VECTOR,
+    AROUND_LINE, ASK, AUDIT_LIMIT, CAPACITY, DOTTED, EXPLAIN, EXPLAIN_LINE, FIELD, FROM, FROM_LINE,
+    JSONL, KIND, L_UNIT, LIMIT, NODES, ONLY_CHAIN, OptionRule, PACKED, READING_UNIT, RECEIVES,
+    REPORT, ROWS, SEED, STEPS, STRICT, TO, TO_LINE, TOLERANCE, UNSENT, VECTOR,
 };
 
 // A subcommand, its help and its options.
@@ -28,18 +28,20 @@ pub(crate) enum SubcommandName {
     Judge,
     Audit,
     DrawLog,
+    Vectors,
     Storm,
     Threads,
 }
 
 // The subcommands of `hlc`, in the order in which the help lists them.
-pub(crate) static SUBCOMMANDS: [SubcommandName; 8] = [
+pub(crate) static SUBCOMMANDS: [SubcommandName; 9] = [
     SubcommandName::Run,
     SubcommandName::Draw,
     SubcommandName::Trace,
     SubcommandName::Judge,
     SubcommandName::Audit,
     SubcommandName::DrawLog,
+    SubcommandName::Vectors,
     SubcommandName::Storm,
     SubcommandName::Threads,
 ];
@@ -52,30 +54,53 @@ static TRACE_OPTIONS: [OptionRule; 4] = [NODES, CAPACITY, LIMIT, VECTOR];
 
 static JUDGE_OPTIONS: [OptionRule; 0] = [];
 
-static AUDIT_OPTIONS: [OptionRule; 9] = [
+static AUDIT_OPTIONS: [OptionRule; 14] = [
     PACKED,
     DOTTED,
     TOLERANCE,
     RECEIVES,
     UNSENT,
+    JSONL,
+    FIELD,
+    KIND,
+    READING_UNIT,
+    L_UNIT,
     STRICT,
     AUDIT_LIMIT,
     ASK,
     REPORT,
 ];
 
-static DRAW_LOG_OPTIONS: [OptionRule; 11] = [
+static DRAW_LOG_OPTIONS: [OptionRule; 16] = [
     PACKED,
     DOTTED,
     TOLERANCE,
     RECEIVES,
     UNSENT,
+    JSONL,
+    FIELD,
+    KIND,
+    READING_UNIT,
+    L_UNIT,
     EXPLAIN_LINE,
     FROM_LINE,
     TO_LINE,
     AROUND_LINE,
     ROWS,
     ONLY_CHAIN,
+];
+
+static VECTORS_OPTIONS: [OptionRule; 10] = [
+    PACKED,
+    DOTTED,
+    TOLERANCE,
+    RECEIVES,
+    UNSENT,
+    JSONL,
+    FIELD,
+    KIND,
+    READING_UNIT,
+    L_UNIT,
 ];
 
 static STORM_OPTIONS: [OptionRule; 3] = [NODES, STEPS, SEED];
@@ -122,6 +147,12 @@ pub(crate) fn subcommand_rule(name: SubcommandName) -> SubcommandRule
             about: help::DRAW_LOG,
             after_help: help::LOG_PICTURE,
             options: &DRAW_LOG_OPTIONS,
+        },
+        SubcommandName::Vectors => SubcommandRule {
+            name: "vectors",
+            about: help::VECTORS,
+            after_help: help::LOG_VECTORS,
+            options: &VECTORS_OPTIONS,
         },
         SubcommandName::Storm => SubcommandRule {
             name: "storm",

@@ -31,7 +31,7 @@ HasTwoFields (x ∷ []) = ⊥
 HasTwoFields (x ∷ y ∷ fields) = Unit {0}
 
 -- such a row, and text after it, is read back
-read_row : (row : Fields) (tail : List ℕ) → HasTwoFields row
+pub read_row : (row : Fields) (tail : List ℕ) → HasTwoFields row
     → next_record default_config st.StartRecord [] [] (text_of_row row ++ tail) ≡ Some (row, st.StartRecord, tail)
 unfolding text_of_row is_blank
 read_row [] tail two = absurd two

@@ -7,7 +7,7 @@
 //!   is none.
 //! - `number` reads a field as a number of up to 64 bits; `number_u16` and `number_u32` are for smaller ones.
 //! - `read_numbers` reads the numbers that the fields of a record from a place on list.
-//! - `RowBuffer` gathers rows of `RowField`s, texts or numbers, and hands them to a writer in batches.
+//! - `RowBuffer` gathers rows of `RowField`s, texts or numbers, and hands them to a writer in batches; `put_text` writes one field.
 //! - `yes_or_no` is the word of a row that says whether something holds.
 //! - `RecordsFault` says why a run over records stopped.
 //! - `RecordReader` reads the records of a log, one at a time, after a byte order mark, if there is one. `FoundRecord` tells of each the line on
@@ -75,6 +75,6 @@ pub use record_reader::RecordReader;
 pub use records::{field, read_next, script_reader};
 pub use records_fault::RecordsFault;
 pub use retrying_reader::RetryingReader;
-pub use row_buffer::RowBuffer;
+pub use row_buffer::{RowBuffer, put_text};
 pub use row_field::RowField;
 pub use words::yes_or_no;

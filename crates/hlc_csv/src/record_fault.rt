@@ -1,5 +1,6 @@
 use crate::records_fault::RecordsFault;
 use std::alloc::AllocError;
+use std::io::{self, ErrorKind};
 use thiserror::Error;
 
 /// Why no record of a log could be read.
@@ -11,6 +12,16 @@ pub enum RecordFault {
     /// A growth was refused.
     #[error("{}", RecordsFault::Memory)]
     Memory,
+}
+
+impl RecordFault {
+    // What a read that failed tells: readers that make what they give say so if memory for it is refused.
+    pub(crate) fn of(error: &io::Error) -> RecordFault {
+        match error.kind() {
+            ErrorKind::OutOfMemory => RecordFault::Memory,
+            _ => RecordFault::Read,
+        }
+    }
 }
 
 impl From<AllocError> for RecordFault {

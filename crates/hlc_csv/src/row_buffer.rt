@@ -46,9 +46,9 @@ fn put_quoted(text: &mut Vec<u8>, field: &[u8]) -> Result<(), AllocError>
     text.extend_from_slice(b"\"")
 }
 
-// Writes a field, between quotes if it needs them.
+/// Writes a field of a row, between quotes if it needs them: what stands between fields, and what ends the row, is the caller's.
 #[inline]
-fn put_text(text: &mut Vec<u8>, field: &[u8]) -> Result<(), AllocError>
+pub fn put_text(text: &mut Vec<u8>, field: &[u8]) -> Result<(), AllocError>
     ensures { OnOk result (text.new.items ≡ text.old.items ++ field_text row_setup field.now) }
 {
     if needs_quotes(field) {

@@ -26,7 +26,7 @@ fn read_byte<R: Read>(reader: &mut R) -> Result<Option<u8>, RecordFault>
     match reader.read(&mut byte) {
         Ok(0) => Ok(None),
         Ok(_) => Ok(Some(byte[0])),
-        Err(_) => Err(RecordFault::Read),
+        Err(error) => Err(RecordFault::of(&error)),
     }
 }
 

@@ -30,8 +30,9 @@ pub(crate) fn take_turn<B: BufRead>(
     ensures turn { IfOk result (Turns parser.old parser.new (fields_of fields.old) (fields_of fields.new) (B.remaining input.old) (B.remaining input.new)) }
     ensures none_partial { OnOk result (partial_of fields.new ≡ []) }
 {
-    let Ok(bytes) = input.fill_buf() else {
-        return Err(RecordFault::Read);
+    let bytes = match input.fill_buf() {
+        Ok(bytes) => bytes,
+        Err(error) => return Err(RecordFault::of(&error)),
     };
     if bytes.is_empty() {
         return Ok(Turn::End);

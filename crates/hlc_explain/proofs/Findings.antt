@@ -144,21 +144,21 @@ module _ (s : Skeleton) (e f : ℕ) where
     same = (λ other. absurd (cc), λ h. absurd (not_itself h before));
   }
 
-  stand_after : HappenedBefore s f e → IsRelationOf s e f After
+  pub stand_after : HappenedBefore s f e → IsRelationOf s e f After
   stand_after after = record {
     before = (λ other. absurd (cc), λ h. absurd (not_both h after));
     after = (λ is. after, λ h. refl);
     same = (λ other. absurd (cc), λ h. absurd (not_after_itself h after));
   }
 
-  stand_same : e ≡ f → IsRelationOf s e f Same
+  pub stand_same : e ≡ f → IsRelationOf s e f Same
   stand_same same = record {
     before = (λ other. absurd (cc), λ h. absurd (not_itself same h));
     after = (λ other. absurd (cc), λ h. absurd (not_after_itself same h));
     same = (λ is. same, λ h. refl);
   }
 
-  stand_apart : e ≢ f → ¬ HappenedBefore s e f → ¬ HappenedBefore s f e → IsRelationOf s e f Concurrent
+  pub stand_apart : e ≢ f → ¬ HappenedBefore s e f → ¬ HappenedBefore s f e → IsRelationOf s e f Concurrent
   stand_apart differ not_before not_after = record {
     before = (λ other. absurd (cc), λ h. absurd (not_before h));
     after = (λ other. absurd (cc), λ h. absurd (not_after h));

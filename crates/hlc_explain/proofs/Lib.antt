@@ -6,6 +6,7 @@ pub mod Origins
 pub mod KnownOrigins
 pub mod Explaining
 pub mod Reaching
+pub mod Relations
 pub mod InfluenceSteps
 pub mod Findings
 pub mod ClockFindings

@@ -1,27 +1,30 @@
 -- Each event has two lines in the text with vectors.
 use Rattle.std.proofs.Common.{◌≡◌, ◌∙◌, ℕ, ◌^◌, ◌<◌, ◌≤◌, ◌==◌, inl, inr, Bool, true, false, cond, List, [], ◌∷◌, ◌++◌, Option, Some, None, append_assoc, arith, decimal, filter, length, map, refl, sym, ap, subst}
-use Rattle.std.specs.Prelude.{All, codes, flat_map, nat_lt}
+use Rattle.std.specs.Prelude.{All, codes, flat_map, nat_lt, slice_index}
 use Rattle.std.specs.Char.{is_ascii_digit}
 use Rattle.std.specs.List.{list_any}
 use Rattle.std.specs.Str.{all_ascii_digits}
 use Rattle.std.proofs.lemmas.Bool.{cases_Bool, ne_eqb}
 use Rattle.std.proofs.lemmas.Bool.Decides.{nat_tests}
-use Rattle.std.proofs.lemmas.List.{get_or_default}
+use Rattle.std.proofs.lemmas.List.{get_or-map, get_or_default, length-map}
 use Rattle.std.proofs.lemmas.List.Elements.{All-filter, All-head, All-tail}
 use Rattle.std.proofs.lemmas.List.Folds.{list_any-append}
 use Rattle.std.proofs.lemmas.List.Sums.{count_by-le-length}
 use Rattle.csv.specs.Writing.{escaped, field_text, fields_text, is_blank, needs_quotes, row_body}
+use Rattle.hlc_causality.specs.Causality.{Skeleton}
 use Rattle.hlc_causality.specs.Places.{places_below}
 use Rattle.hlc_causality.proofs.PlacesBelow.{length-places_below, place_at}
 use Rattle.hlc_arena.specs.History.{Delivered, Erased, EventKind, Sent, StampedEvent, Synced, Written, causality_of, stamped_at}
 use Rattle.hlc_arena.proofs.Histories.{length_skeleton}
+use Rattle.hlc_vector_text.specs.Plain.{if_plain, is_hidden}
 use Rattle.hlc_csv.specs.Rows.{Fields, row_setup, text_of_row}
 use Rattle.hlc_csv.proofs.DecimalFacts.{all_digits-decimal}
-use Rattle.hlc_explain.specs.Vectors.{is_counted, vector_at}
+use Rattle.hlc_vector_text.specs.VectorLine.{count_text, count_texts, joined, vector_line}
+use Rattle.hlc_explain.specs.Vectors.{is_counted, vector_at, vector_of}
 use Rattle.hlc_history_log.specs.Label.{label_of}
 use Rattle.hlc_history_log.specs.Laws.{HasNoLineFeed, TwoLinesEach}
 use Rattle.hlc_history_log.specs.LogRows.{message_numbers, message_of, row_with, row_word}
-use Rattle.hlc_history_log.specs.VectorText.{count_text, count_texts, if_plain, is_hidden, joined, plain_row, vector_line}
+use Rattle.hlc_history_log.specs.VectorText.{plain_row}
 use Rattle.hlc_history_log.proofs.LogLaws.{in_range}
 use Rattle.hlc_history_log.proofs.RowsTell.{IsInRange}
 
@@ -110,35 +113,51 @@ none-codes-joined (text ∷ texts) none = none-append text _ none.0 (others text
   others [] none = refl
   others (text ∷ texts) none = none-append (codes ", " ++ text) _ (none-append (codes ", ") text refl none.0) (others texts none.1)
 
-none-count : (node count : ℕ) → node < 2 ^ 64 → count < 2 ^ 64 → HasNoLineFeed (count_text node count)
-none-count node count node_small count_small =
-    none-append (codes "\"" ++ decimal node ++ codes "\":") (decimal count)
-    (none-append (codes "\"" ++ decimal node) (codes "\":") (none-append (codes "\"") (decimal node) refl (none-decimal node node_small)) refl)
-    (none-decimal count count_small)
+none-count : (node : List ℕ) (count : ℕ) → HasNoLineFeed node → count < 2 ^ 64 → HasNoLineFeed (count_text node count)
+none-count node count none count_small =
+    none-append (codes "\"" ++ node ++ codes "\":") (decimal count)
+    (none-append (codes "\"" ++ node) (codes "\":") (none-append (codes "\"") node refl none) refl) (none-decimal count count_small)
 
-none-map : (vector : ℕ → ℕ) → ((node : ℕ) → vector node < 2 ^ 64) → (places : List ℕ) → All (λ node. node < 2 ^ 64) places
-    → NoneHas (map (λ node. count_text node (vector node)) places)
-none-map vector small [] all = tt
-none-map vector small (node ∷ places) all =
-    (none-count node (vector node) (All-head (λ node. node < 2 ^ 64) node places all) (small node), none-map vector small places (All-tail (λ node. node < 2 ^ 64) node places all))
+module _ (spelled : ℕ → List ℕ) (vector : ℕ → ℕ) (n : ℕ) (none : (node : ℕ) → node < n → HasNoLineFeed (spelled node))
+    (small : (node : ℕ) → node < n → vector node < 2 ^ 64) where
+  none-map : (places : List ℕ) → All (λ node. node < n) places → NoneHas (map (λ node. count_text (spelled node) (vector node)) places)
+  none-map [] all = tt
+  none-map (node ∷ places) all =
+      let here = All-head (λ node. node < n) node places all in
+      (none-count (spelled node) (vector node) (none node here) (small node here), none-map places (All-tail (λ node. node < n) node places all))
 
-none-counts : (vector : ℕ → ℕ) → ((node : ℕ) → vector node < 2 ^ 64) → (n : ℕ) → n ≤ 2 ^ 64 → NoneHas (count_texts vector n)
-none-counts vector small n few =
-    let size = length-places_below n in
-    none-map vector small (filter (λ node. nat_lt 0 (vector node)) (places_below n))
-    (All-filter (λ node. nat_lt 0 (vector node)) (λ node. node < 2 ^ 64) (places_below n)
-    (λ k d lt. let is = get_or_default (places_below n) k 0 d lt in let at = place_at n k (omega arith) in omega (arith, is, at)))
+  none-counts : NoneHas (count_texts spelled vector n)
+  none-counts =
+      let size = length-places_below n in
+      none-map (filter (λ node. nat_lt 0 (vector node)) (places_below n))
+      (All-filter (λ node. nat_lt 0 (vector node)) (λ node. node < n) (places_below n)
+      (λ k d lt. let is = get_or_default (places_below n) k 0 d lt in let at = place_at n k (omega arith) in omega (arith, is, at)))
 
-vector_is_line : (nodes node : ℕ) (vector : ℕ → ℕ) → node < 2 ^ 64 → nodes ≤ 2 ^ 64 → ((node : ℕ) → vector node < 2 ^ 64)
-    → (line : List ℕ) × HasNoLineFeed line × (vector_line nodes node vector ≡ line ++ 10 ∷ [])
-vector_is_line nodes node vector node_small few small =
-    let counts = joined (count_texts vector nodes) in (
-      decimal node ++ codes " {" ++ counts ++ codes "}",
-      none-append (decimal node ++ codes " {" ++ counts) (codes "}")
-          (none-append (decimal node ++ codes " {") counts (none-append (decimal node) (codes " {") (none-decimal node node_small) refl)
-          (none-codes-joined (count_texts vector nodes) (none-counts vector small nodes few))) refl,
-      sym (append_assoc (decimal node ++ codes " {" ++ counts) (codes "}") (10 ∷ [])),
+vector_is_line : (spelled : ℕ → List ℕ) (node : ℕ) (vector : List ℕ) → HasNoLineFeed (spelled node)
+    → ((k : ℕ) → k < length vector → HasNoLineFeed (spelled k)) → ((k : ℕ) → k < length vector → slice_index vector k < 2 ^ 64)
+    → (line : List ℕ) × HasNoLineFeed line × (vector_line spelled node vector ≡ line ++ 10 ∷ [])
+vector_is_line spelled node vector none_here none small =
+    let texts = count_texts spelled (slice_index vector) (length vector) in
+    let counts = joined texts in (
+      spelled node ++ codes " {" ++ counts ++ codes "}",
+      none-append (spelled node ++ codes " {" ++ counts) (codes "}")
+          (none-append (spelled node ++ codes " {") counts (none-append (spelled node) (codes " {") none_here refl)
+          (none-codes-joined texts (none-counts spelled (slice_index vector) (length vector) none small))) refl,
+      sym (append_assoc (spelled node ++ codes " {" ++ counts) (codes "}") (10 ∷ [])),
     )
+
+-- a number in the vector of an event counts some events
+count_at : (s : Skeleton) (nodes e node : ℕ) → node < nodes → slice_index (vector_of s nodes e) node ≡ vector_at s e node
+count_at s nodes e node lt =
+    let size = length-places_below nodes in
+    get_or-map (vector_at s e) (places_below nodes) node 0 0 (omega arith) ∙ ap (vector_at s e) (place_at nodes node lt)
+
+count_small : (s : Skeleton) (nodes e node : ℕ) → length s < 2 ^ 64 → node < nodes → slice_index (vector_of s nodes e) node < 2 ^ 64
+count_small s nodes e node few lt =
+    let is = count_at s nodes e node lt in
+    let counted = count_by-le-length (is_counted s e node) (places_below (length s)) in
+    let places = length-places_below (length s) in
+    omega arith
 
 -- the row of an event has none, unless its label has one
 none_has-append : (xs ys : Fields) → NoneHas xs → NoneHas ys → NoneHas (xs ++ ys)
@@ -192,13 +211,13 @@ two_lines_each h e clocked lt =
     let few = clocked.well_formed.few_nodes in
     let a = clocked.well_formed.within_capacity in
     let b = clocked.well_formed.small_capacity in
-    let small : (node : ℕ) → vector_at (causality_of h.events) e node < 2 ^ 64 =
-    λ node.
-    let counted = count_by-le-length (is_counted (causality_of h.events) e node) (places_below (length (causality_of h.events))) in
-    let places = length-places_below (length (causality_of h.events)) in
+    let s = causality_of h.events in
     let size = length_skeleton h.events in
-    omega arith in
-    let first = vector_is_line h.nodes x.event.node (vector_at (causality_of h.events) e) r.node (omega arith) small in
+    let len = length-map (places_below h.nodes) (vector_at s e) ∙ length-places_below h.nodes in
+    let named : (k : ℕ) → k < length (vector_of s h.nodes e) → HasNoLineFeed (decimal k) = λ k below. none-decimal k (omega arith) in
+    let small : (k : ℕ) → k < length (vector_of s h.nodes e) → slice_index (vector_of s h.nodes e) k < 2 ^ 64 =
+    λ k below. count_small s h.nodes e k (omega arith) (omega arith) in
+    let first = vector_is_line decimal x.event.node (vector_of s h.nodes e) (none-decimal x.event.node r.node) named small in
     let second = row_line e x r (if_plain (label_of h.events x.event.kind)) (kept_none (label_of h.events x.event.kind)) in
     record {
       first = first.0;

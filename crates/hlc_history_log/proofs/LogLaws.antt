@@ -1,5 +1,5 @@
 -- The laws of logs of histories.
-use Rattle.std.proofs.Common.{◌≡◌, ◌∙◌, ℕ, zero, suc, ◌^◌, ◌<◌, ◌≤◌, List, [], ◌∷◌, ◌++◌, Some, Ok, Result, arith, length, map, refl, sym, ap, subst}
+use Rattle.std.proofs.Common.{◌≡◌, ◌∙◌, ℕ, zero, suc, ◌^◌, ◌<◌, ◌≤◌, List, [], ◌∷◌, ◌++◌, None, Some, Ok, Result, arith, length, map, refl, sym, ap, subst}
 use Rattle.std.specs.Prelude.{All, slice_index_or}
 use Rattle.std.proofs.lemmas.List.{get_or-map, length-map, map-append}
 use Rattle.hlc_stamp.specs.declared.limits.TheConstants.{MAX_NODES, MAX_READING}
@@ -12,13 +12,15 @@ use Rattle.hlc_causality.proofs.PlacesBelow.{length-places_below, place_at as pl
 use Rattle.hlc_arena.specs.History.{Delivered, Erased, EventKind, History, Sent, Synced, Written, causality_of, event_at, stamp_at, stamped_at, stamps_of}
 use Rattle.hlc_arena.proofs.Following.{delivered_exists}
 use Rattle.hlc_arena.proofs.Histories.{length_skeleton, pair_at_place, skeleton_at_place}
+use Rattle.hlc_csv.specs.RecordLines.{told_lines}
 use Rattle.hlc_csv.specs.Rows.{Fields}
 use Rattle.hlc_log_text.specs.LogRules.{exact_rules}
 use Rattle.hlc_log_text.specs.declared.stamp_form.StampForm.TheVariants as form
-use Rattle.hlc_log_text.specs.LogItem.{LogItem, Tells, events_in, item_of, questions_in}
+use Rattle.hlc_log_text.specs.LogItem.{LogItem, Tells, events_in, item_of, lines_where, questions_in}
 use Rattle.hlc_log_text.specs.LogText.{IsLogOf, node_names}
 use Rattle.hlc_log_text.specs.NamedEvent.{NamedEvent}
 use Rattle.hlc_log_text.specs.Question.{plain_asked}
+use Rattle.hlc_log_text.specs.Skipped.{is_skip, skipped_in, skipped_on}
 use Rattle.hlc_log_text.specs.ReadLog.{MakeItems, SayItems}
 use Rattle.hlc_log_text.specs.declared.bad_log.BadLog.{BadLog}
 use Rattle.hlc_log_text.specs.declared.log_text.LogText.{LogText}
@@ -26,7 +28,7 @@ use Rattle.hlc_log_text.proofs.PlainLogs.{placed_say, said_once}
 use Rattle.hlc_log_text.proofs.NamedNodes.{read_names}
 use Rattle.hlc_history_log.specs.Label.{label_of}
 use Rattle.hlc_history_log.specs.Laws.{IsClocked, IsLogRead, LogsAuditClean, LogsHaveAnOrder, LogsTellEventsAlone, LogsTellNothingCarried, LogsTellReadings, LogsTellStamps, RowsMakeEvents, TellHistory, TellsOf}
-use Rattle.hlc_history_log.specs.LogRows.{log_row, log_rows, message_of}
+use Rattle.hlc_history_log.specs.LogRows.{log_row, log_rows, log_text, message_of}
 use Rattle.hlc_history_log.proofs.FewNodes.{IsDecimalBelow, few_names}
 use Rattle.hlc_history_log.proofs.HistoryLogs.{IsHistoryLog, is_history_log}
 use Rattle.hlc_history_log.proofs.InOrder.{in_order_is_clean, log_in_own_order}
@@ -47,6 +49,11 @@ events_told (x ∷ told) = ap (λ (rest : List NamedEvent). x ∷ rest) (events_
 nothing_asked : (told : List NamedEvent) → questions_in (map tells_it told) ≡ []
 nothing_asked [] = refl
 nothing_asked (x ∷ told) = nothing_asked told
+
+nothing_skipped : (told : List NamedEvent) (lines : List ℕ) → lines_where is_skip (map tells_it told) lines ≡ []
+nothing_skipped [] lines = refl
+nothing_skipped (x ∷ told) [] = refl
+nothing_skipped (x ∷ told) (line ∷ lines) = nothing_skipped told lines
 
 none_mapped : {X Y : Type 0} (f : X → Y) (xs : List X) → map f xs ≡ [] → xs ≡ []
 none_mapped f [] none = refl
@@ -182,6 +189,11 @@ module _ (h : History) (clocked : IsClocked h) where
   nothing_is_asked text read =
       none_mapped plain_asked text.questions.items (read.held.questions ∙ ap questions_in (items_read text read) ∙ nothing_asked told)
 
+  nothing_is_skipped : (text : LogText) → IsLogRead h text → text.skipped ≡ None
+  nothing_is_skipped text read =
+      let lines = told_lines (log_text h.events) in
+      read.skipped ∙ ap (λ (items : List LogItem). skipped_in items lines) (items_read text read) ∙ ap skipped_on (nothing_skipped told lines)
+
 pub rows_make_events : RowsMakeEvents
 rows_make_events h clocked = (told h clocked, makes_items h clocked, tells_history h clocked)
 
@@ -195,7 +207,7 @@ logs_have_an_order h text clocked read =
 pub logs_tell_events_alone : LogsTellEventsAlone
 logs_tell_events_alone h text clocked read =
     let is = log_is_read h clocked text read in
-    (is.size, nothing_is_asked h clocked text read)
+    (is.size, nothing_is_asked h clocked text read, nothing_is_skipped h clocked text read)
 
 pub logs_tell_readings : LogsTellReadings
 logs_tell_readings h text e clocked read lt =

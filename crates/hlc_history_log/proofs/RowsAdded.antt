@@ -4,9 +4,9 @@ use Rattle.std.specs.Prelude.{decimal, option_map}
 use Rattle.std.proofs.lemmas.List.{map-append}
 use Rattle.std.specs.Io.KnownBytes.{Appends, append_known}
 use Rattle.hlc_causality.specs.Places.{places_below}
+use Rattle.hlc_vector_text.specs.Labelled.{and_label}
 use Rattle.hlc_csv.specs.Rows.{AddsText, Fields, number_row, text_of, text_of_row}
 use Rattle.hlc_csv.proofs.RowFacts.{adds_text-more, text_of-append, text_of-one}
-use Rattle.hlc_history_log.specs.LogRows.{and_label}
 
 -- a row of a word and numbers, and of a last word if there is one, is labelled so
 pub number_row-labelled : (word : List ℕ) (numbers : List ℕ) (label : Option (Bor (List ℕ)))

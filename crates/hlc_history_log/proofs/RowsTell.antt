@@ -23,7 +23,7 @@ use Rattle.hlc_history_log.specs.Laws.{log_kind}
 use Rattle.hlc_history_log.specs.LogRows.{message_of, row_with}
 
 -- what a reader makes of the numbers
-reading_is : (n : ℕ) → 1 ≤ n → n ≤ MAX_READING → reading_of (decimal n) ≡ Some n
+reading_is : (n : ℕ) → 1 ≤ n → n ≤ MAX_READING → reading_of (exact_rules Pair) (decimal n) ≡ Some n
 reading_is n positive in_range =
     let low : nat_le 1 n ≡ true = grind (arith, nat_tests, positive) in
     let high : nat_le n MAX_READING ≡ true = grind (arith, nat_tests, in_range) in
@@ -59,7 +59,7 @@ exact_reading reading l positive = omega arith
 
 -- a record that has all that its word asks for tells of an event
 tells_of_parts : (fields : Fields) (k : LogKind) (reading : ℕ) (stamp : Stamp) → 1 ≤ reading → log_word_of (field_of fields 0) ≡ Some (kind_word k)
-    → has_fields_of Pair (kind_word k) (length fields) ≡ true → (length (field_of fields 2) == 0) ≡ false → reading_of (field_of fields 2) ≡ Some reading
+    → has_fields_of Pair (kind_word k) (length fields) ≡ true → (length (field_of fields 2) == 0) ≡ false → reading_of (exact_rules Pair) (field_of fields 2) ≡ Some reading
     → stamp_told Pair (kind_word k) fields ≡ Some (Some stamp)
     → head_by (kind_word k) reading true (Some stamp) ≡ Some (record { word = kind_word k; reading = reading; has_reading = true; stamp = stamp; has_stamp = true })
     → has_good_names Pair (kind_word k) None fields ≡ true → (label : Option (List ℕ)) → label_of Pair (kind_word k) fields ≡ label
@@ -69,10 +69,10 @@ tells_of_parts fields k reading stamp positive is_word count is_told is_reading 
     let good = has_good_names Pair w None fields in
     ap (λ o. item_after_word (exact_rules Pair) None o fields) is_word
     ∙ ap (λ (b : Bool). tells (named_event_from Pair w None fields (cond b (head_or_name (head_with (exact_rules Pair) w fields) good) (Err bad.Fields)))) count
-    ∙ ap (λ (o : Option (Option Stamp)). tells (named_event_from Pair w None fields (head_or_name (head_from 0 w (field_of fields 2) o) good))) is_stamp
+    ∙ ap (λ (o : Option (Option Stamp)). tells (named_event_from Pair w None fields (head_or_name (head_from (exact_rules Pair) w (field_of fields 2) o) good))) is_stamp
     ∙ ap (λ (b : Bool). tells (named_event_from Pair w None fields (head_or_name
     (option_and_then (λ (n : ℕ). head_by w n (not b) (Some stamp))
-    (cond b (Some (assumed_reading stamp)) (option_map (λ (n : ℕ). tolerated 0 n stamp.l) (reading_of (field_of fields 2))))) good))) is_told
+    (cond b (Some (assumed_reading stamp)) (option_map (λ (n : ℕ). tolerated 0 n stamp.l) (reading_of (exact_rules Pair) (field_of fields 2))))) good))) is_told
     ∙ ap (λ (o : Option ℕ). tells (named_event_from Pair w None fields (head_or_name
     (option_and_then (λ (n : ℕ). head_by w n true (Some stamp)) (option_map (λ (n : ℕ). tolerated 0 n stamp.l) o)) good))) is_reading
     ∙ ap (λ (n : ℕ). tells (named_event_from Pair w None fields (head_or_name (head_by w n true (Some stamp)) good))) (exact_reading reading stamp.l positive)
@@ -110,7 +110,7 @@ module _ (e : ℕ) (node reading : ℕ) (stamp : Stamp) (label : List ℕ) where
   told : (k : EventKind) → IsInRange e (with_kind k) → (length (decimal reading) == 0) ≡ false
   told k h = number_is_told reading (let most = h.reading in omega arith)
 
-  good : (k : EventKind) → IsInRange e (with_kind k) → reading_of (decimal reading) ≡ Some reading
+  good : (k : EventKind) → IsInRange e (with_kind k) → reading_of (exact_rules Pair) (decimal reading) ≡ Some reading
   good k h = reading_is reading h.positive h.reading
 
   whole : (k : EventKind) → IsInRange e (with_kind k) → pair_stamp (decimal stamp.l) (decimal stamp.c) ≡ Some stamp

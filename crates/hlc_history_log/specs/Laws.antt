@@ -96,10 +96,10 @@ abbrev pub LogsHaveAnOrder : Type 0
 LogsHaveAnOrder = (h : History) (text : LogText) → IsClocked h → IsLogRead h text →
     (log : LogInOrder) × (log.receives ≡ Tick) × (log.events ≡ text.log.events) × IsInOrder log
 
--- whoever reads the log has an event for each of the history's, and is asked nothing
+-- whoever reads the log has an event for each of the history's, and is asked nothing, and nothing was left out
 abbrev pub LogsTellEventsAlone : Type 0
 LogsTellEventsAlone = (h : History) (text : LogText) → IsClocked h → IsLogRead h text →
-    (length text.log.events ≡ length h.events) × (text.questions.items ≡ [])
+    (length text.log.events ≡ length h.events) × (text.questions.items ≡ []) × (text.skipped ≡ None)
 
 -- and the log tells what each event's clock read
 abbrev pub LogsTellReadings : Type 0

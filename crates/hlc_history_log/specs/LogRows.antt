@@ -1,7 +1,8 @@
 -- The rows of a log that tells of a history.
-use Rattle.std.specs.Prelude.{ℕ, List, [], ◌∷◌, ◌++◌, Option, Some, None, codes, decimal, length, map}
+use Rattle.std.specs.Prelude.{ℕ, List, [], ◌∷◌, Option, Some, None, codes, decimal, length, map}
 use Rattle.hlc_causality.specs.Places.{places_below}
 use Rattle.hlc_arena.specs.History.{Delivered, Erased, EventKind, Sent, StampedEvent, Synced, Written, stamped_at}
+use Rattle.hlc_vector_text.specs.Labelled.{and_label}
 use Rattle.hlc_csv.specs.Rows.{Fields, text_of}
 use Rattle.hlc_history_log.specs.Label.{label_of}
 
@@ -29,11 +30,6 @@ message_numbers (Some message) = message ∷ []
 -- the numbers in the row of the event at a place: its node, its reading, its stamp and its message, if it has one
 abbrev pub row_numbers : ℕ → StampedEvent → List ℕ
 row_numbers e x = x.event.node ∷ x.event.reading ∷ x.stamp.l ∷ x.stamp.c ∷ message_numbers (message_of e x.event.kind)
-
--- fields with a label, if there is one
-abbrev pub and_label : Fields → Option (List ℕ) → Fields
-and_label fields None = fields
-and_label fields (Some label) = fields ++ label ∷ []
 
 -- the row of the event at a place, with this label or none
 abbrev pub row_with : ℕ → StampedEvent → Option (List ℕ) → Fields

@@ -27,7 +27,6 @@ mod label;
 pub mod laws;
 mod log;
 mod row;
-mod vector_line;
 mod vector_log;
 
 pub use log::write_log;

@@ -2,50 +2,37 @@
 
 ghost use Rattle.std.specs.Prelude.{◌≡◌, ◌++◌, ◌<◌, [], OnOk, length, option_map};
 ghost use Rattle.std.specs.Io.KnownBytes.{Appends};
-ghost use Rattle.std.specs.List.{list_any};
 ghost use Rattle.hlc_arena.specs.Arena.{IsWellFormed, history_of};
 ghost use Rattle.hlc_arena.specs.History.{causality_of};
 ghost use Rattle.hlc_arena.specs.Kinds.{stamped_event_of};
-ghost use Rattle.hlc_csv.specs.Rows.{AddsText, text_of_row};
+ghost use Rattle.hlc_csv.specs.Rows.{text_of_row};
 ghost use Rattle.hlc_explain.specs.Vectors.{vectors_of};
 ghost use Rattle.hlc_history_log.specs.LogRows.{row_with};
-ghost use Rattle.hlc_history_log.specs.VectorText.{event_text, if_plain, is_hidden, vector_text};
+ghost use Rattle.hlc_history_log.specs.VectorText.{event_text, vector_text};
 
 use crate::label::put_label;
 use crate::row::push_row;
-use crate::vector_line::put_vector_line;
 use hlc_arena::{Arena, Record};
 use hlc_csv::{OutputFault, RowBuffer};
 use hlc_explain::{Vectors, vectors};
 use hlc_stamp::EventId;
+use hlc_vector_text::{NodeTexts, hand_out, plain, put_vector_line, spill};
+use itoa::Buffer;
 use std::alloc::{AllocError, Global};
 use std::io::Write;
 
-// How many bytes are gathered before they are handed to the writer.
-const BATCH: usize = 65_536;
+// Nodes that go by their numbers.
+#[derive(Clone, Copy)]
+struct Numbers;
 
-// Whether a byte is no printable character of ASCII.
-fn is_hidden(byte: u8) -> bool
-    ensures { result ≡ is_hidden byte }
-{
-    !matches!(byte, b' '..=b'~')
-}
+impl NodeTexts for Numbers {
+    ghost use Rattle.std.specs.Prelude.{decimal};
 
-// Whether a label has such a byte.
-fn has_hidden(label: &[u8]) -> bool
-    ensures { result ≡ list_any is_hidden label.now }
-{
-    label.iter().any(|byte| is_hidden(*byte))
-}
+    ghost text_of = { λ _ number. decimal number };
 
-// A label, unless a byte of it is hidden.
-fn plain(label: &[u8]) -> Option<&[u8]>
-    ensures { option_map (λ label. label.now) result ≡ if_plain label.now }
-{
-    if has_hidden(label) {
-        return None;
+    fn put_node(&self, text: &mut Vec<u8>, number: usize) -> Result<(), AllocError> {
+        text.extend_from_slice(Buffer::new().format(number).as_bytes())
     }
-    Some(label)
 }
 
 // Adds the row of an event that is told of so, with a label if there is one.
@@ -81,29 +68,9 @@ fn put_event(
     ensures { OnOk result (text.new.items ≡ text.old.items ++ event_text history.now.nodes history.now.events event.0) }
 {
     let record = history.get(event).unwrap();
-    put_vector_line(text, vectors, history.nodes(), record.node, event)?;
+    put_vector_line(text, &Numbers, record.node, vectors.vector(event))?;
     put_label(label, history, event)?;
     put_row(alloc, text, event, &record, plain(label.as_slice()))
-}
-
-// Hands text to the writer, and lets go of it, also if the writer failed.
-fn hand_over<W: Write>(text: &mut Vec<u8>, writer: &mut W) -> Result<(), OutputFault>
-    ensures empty { text.new.items ≡ [] }
-    ensures sent { OnOk result (Appends (W.contents writer.old) (W.contents writer.new) text.old.items) }
-{
-    let written = writer.write_all(text.as_slice());
-    text.clear();
-    written.map_err(|_| OutputFault::Write)
-}
-
-// Hands text to the writer if there is a batch of it.
-fn spill<W: Write>(text: &mut Vec<u8>, writer: &mut W) -> Result<(), OutputFault>
-    ensures { OnOk result (AddsText (W.contents writer.old) (W.contents writer.new) text.old.items text.new.items []) }
-{
-    if text.len() < BATCH {
-        return Ok(());
-    }
-    hand_over(text, writer)
 }
 
 // Writes the lines of all events, over a text for them and one for their labels, of which nothing is written yet. Whoever owns these has few ways
@@ -124,8 +91,7 @@ fn write_events<W: Write>(
         put_event(alloc, text, label, history, vectors, EventId(event))?;
         spill(text, writer)?;
     }
-    hand_over(text, writer)?;
-    writer.flush().map_err(|_| OutputFault::Write)
+    hand_out(text, writer)
 }
 
 /// Writes a history as a log in which each row stands below a line with the event's node and vector, as ShiViz and other tools that draw

@@ -14,6 +14,7 @@ use Rattle.hlc_log.proofs.Agreement.{faults_leave_no_order}
 use Rattle.hlc_log_text.specs.Question.{Asked}
 use Rattle.hlc_log_text.specs.declared.log_text.LogText.{LogText}
 use Rattle.hlc_log_text.specs.declared.question.LogQuestion.{LogQuestion}
+use Rattle.hlc_log_text.specs.declared.skipped.Skipped.{Skipped}
 use Rattle.hlc_log_audit.specs.Answers.{AreAnswers}
 use Rattle.hlc_log_report.specs.InOrder.{AreFilled, IsInOrder, LogInOrder, filled_event}
 use Rattle.hlc_log_report.proofs.Filled.{filled_causal, filled_itself, filled_sound}
@@ -78,7 +79,7 @@ no_answers nodes labels log full (row ∷ rows) are = absurd are
 
 pub told_report : (opened : OpenedLog) (rules : AuditRules) (asked : List Asked) (rows : List Fields) → asked ≡ [] → AreRowsTold opened rules asked rows
     → (report over : List Fields) × IsReport opened.nodes opened.log opened.full report × AreOverRows opened.nodes opened.log rules.limit over
-    × (rows ≡ ((report ++ unsent_row opened.unsent) ++ missing_rows opened.log.events) ++ over)
+    × (rows ≡ ((report ++ unsent_row opened.unsent) ++ missing_rows opened.log.events opened.skipped) ++ over)
 told_report opened rules asked rows nothing told =
     let alone : AreRowsTold opened rules [] rows = subst (λ (questions : List Asked). AreRowsTold opened rules questions rows) nothing told in
     let reported = alone.is_report in (
@@ -96,15 +97,15 @@ told_report opened rules asked rows nothing told =
 module _ (nodes : List (List ℕ)) (labels : List (ℕ × List ℕ)) (log other : LogInOrder) (full : ℕ) (few : length nodes ≤ MAX_NODES)
     (ordered : IsInOrder log) (other_ordered : IsInOrder other) (clocks : other.receives ≡ log.receives)
     (same : other.events ≡ log.events) (rise : LinesRise log.events) where
-  one_report : (is_told : Bool) (unsent limit : Option ℕ) (rows others : List Fields) → IsReportIf is_told nodes log full unsent limit rows
-      → IsReportIf is_told nodes other full unsent limit others → others ≡ rows
-  one_report false unsent limit rows others is other_is = other_is ∙ sym is
-  one_report true unsent limit rows others (report, over, is_report, are_over, is) (other_report, other_over, other_is_report, other_are_over, other_is) =
+  one_report : (is_told : Bool) (unsent : Option ℕ) (skipped : Option Skipped) (limit : Option ℕ) (rows others : List Fields)
+      → IsReportIf is_told nodes log full unsent skipped limit rows → IsReportIf is_told nodes other full unsent skipped limit others → others ≡ rows
+  one_report false unsent skipped limit rows others is other_is = other_is ∙ sym is
+  one_report true unsent skipped limit rows others (report, over, is_report, are_over, is) (other_report, other_over, other_is_report, other_are_over, other_is) =
       other_is
-      ∙ ap (λ (r : List Fields). ((r ++ unsent_row unsent) ++ missing_rows other.events) ++ other_over)
+      ∙ ap (λ (r : List Fields). ((r ++ unsent_row unsent) ++ missing_rows other.events skipped) ++ other_over)
       (reports_agree nodes log other full report other_report few ordered other_ordered clocks same is_report other_is_report)
-      ∙ ap (λ (events : List LogEvent). ((report ++ unsent_row unsent) ++ missing_rows events) ++ other_over) same
-      ∙ ap (λ (r : List Fields). ((report ++ unsent_row unsent) ++ missing_rows log.events) ++ r)
+      ∙ ap (λ (events : List LogEvent). ((report ++ unsent_row unsent) ++ missing_rows events skipped) ++ other_over) same
+      ∙ ap (λ (r : List Fields). ((report ++ unsent_row unsent) ++ missing_rows log.events skipped) ++ r)
       (same_over_rows nodes log other few ordered other_ordered clocks same rise limit over other_over are_over other_are_over)
       ∙ sym is
 
@@ -172,7 +173,7 @@ module _ (text : LogText) (rules : AuditRules) (asked : List LogQuestion) (few :
       let questions = all_asked opened.questions asked in
       let report =
       one_report opened.nodes opened.labels log other opened.full few_here is.in_order other_is.in_order clocks same log_rise (is_reported rules questions)
-      opened.unsent rules.limit first.report second.report first.is_report second.is_report in
+      opened.unsent opened.skipped rules.limit first.report second.report first.is_report second.is_report in
       let answers =
       same_answers opened.nodes opened.labels log other opened.full few_here is.in_order other_is.in_order clocks same log_rise questions
       first.answers second.answers first.are_answers second.are_answers in

@@ -35,8 +35,17 @@ opened_alike rules text one other is other_is =
     let labels : other.labels ≡ one.labels = other_is.labels ∙ sym is.labels in
     let questions : other.questions ≡ one.questions = other_is.questions ∙ sym is.questions in
     let unsent : other.unsent ≡ one.unsent = other_is.ordered.taken ∙ sym is.ordered.taken in
+    let skipped : other.skipped ≡ one.skipped = other_is.skipped ∙ sym is.skipped in
     let full : other.full ≡ one.full = other_is.full ∙ sym is.full in
-    λ i. record { log = other.log; nodes = nodes i; labels = labels i; questions = questions i; unsent = unsent i; full = full i }
+    λ i. record {
+      log = other.log;
+      nodes = nodes i;
+      labels = labels i;
+      questions = questions i;
+      unsent = unsent i;
+      skipped = skipped i;
+      full = full i;
+    }
 
 -- bad input of which the row was written was audited
 pub bad_is_audited : (rules : AuditRules) (most : ℕ) (asked : List LogQuestion) (bytes before after : Option (List ℕ)) (bad : BadInput)

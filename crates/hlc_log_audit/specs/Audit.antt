@@ -10,8 +10,10 @@ use Rattle.hlc_log_text.specs.StampForms.{greatest_c}
 use Rattle.hlc_log_text.specs.Question.{Asked, plain_asked}
 use Rattle.hlc_log_text.specs.ReadLog.{IsReadUpToBad, IsReadWhole}
 use Rattle.hlc_log_text.specs.declared.bad_log.BadLine.{BadLine}
+use Rattle.hlc_log_text.specs.declared.log_rules.LogRules.{LogRules}
 use Rattle.hlc_log_text.specs.declared.log_text.LogText.{LogText}
 use Rattle.hlc_log_text.specs.declared.question.LogQuestion.{LogQuestion}
+use Rattle.hlc_log_text.specs.declared.skipped.Skipped.{Skipped}
 use Rattle.hlc_log_audit.specs.Answers.{AreAnswers}
 use Rattle.hlc_log_report.specs.Counts.{AreCounted}
 use Rattle.hlc_log_report.specs.Found.{BreaksAt}
@@ -20,11 +22,12 @@ use Rattle.hlc_log_report.specs.Outside.{from_outside_count}
 use Rattle.hlc_log_report.specs.Unread.{unread_count}
 use Rattle.hlc_log_report.specs.Unstamped.{unstamped_count}
 use Rattle.hlc_log_report.specs.declared.counts.Counts.{Counts}
-use Rattle.hlc_open_log.specs.Opened.{IsOpenedOf, OpenedLog, opened_events}
+use Rattle.hlc_open_log.specs.Opened.{IsOpened, IsOpenedOf, OpenedLog, opened_events}
 use Rattle.hlc_open_log.specs.Unopened.{HasNoOrder, bad_record, bad_text}
 use Rattle.hlc_open_log.specs.declared.bad_input.BadInput.{BadInput}
 use Rattle.hlc_log_audit.specs.OverLimit.{IsClaimOver}
 use Rattle.hlc_log_audit.specs.Report.{AreOverRows, IsReport}
+use Rattle.hlc_log_audit.specs.declared.audited.Audited.{Audited}
 use Rattle.hlc_log_audit.specs.declared.outcome.Outcome.{Outcome}
 use Rattle.hlc_log_audit.specs.declared.outcome.Outcome.TheVariants as outcome
 use Rattle.hlc_log_audit.specs.declared.rules.AuditRules.{AuditRules}
@@ -50,9 +53,14 @@ outside_row events = counted_row (codes "outside") (from_outside_count events)
 abbrev pub unstamped_row : List LogEvent → List Fields
 unstamped_row events = counted_row (codes "unstamped") (unstamped_count events)
 
--- the rows of what the log doesn't tell of events
-abbrev pub missing_rows : List LogEvent → List Fields
-missing_rows events = outside_row events ++ (unread_row events ++ unstamped_row events)
+-- the row of how many records were left out of a log, with the line of the first, if some were
+abbrev pub skipped_row : Option Skipped → List Fields
+skipped_row None = []
+skipped_row (Some skipped) = (codes "skipped" ∷ decimal skipped.count ∷ decimal skipped.line ∷ []) ∷ []
+
+-- the rows of what the log doesn't tell of events, and of what was left out of it
+abbrev pub missing_rows : List LogEvent → Option Skipped → List Fields
+missing_rows events skipped = outside_row events ++ (unread_row events ++ (unstamped_row events ++ skipped_row skipped))
 
 -- the stamp that the log tells of the event at k is behind its reading, or not above a direct predecessor's, by the stamps that it saw claimed
 abbrev pub IsOutOfOrder : LogInOrder → (full k : ℕ) → Type 0
@@ -111,18 +119,18 @@ abbrev pub is_reported : AuditRules → List Asked → Bool
 is_reported rules [] = true
 is_reported rules (question ∷ questions) = rules.report
 
--- rows are the report on a log in order, with how many receives were taken as local, what isn't told of how many events, and which claims are over the
--- limit, or there are none if it isn't written
-abbrev pub IsReportIf : Bool → (nodes : List (List ℕ)) → LogInOrder → (full : ℕ) → (unsent limit : Option ℕ) → List Fields → Type 0
-IsReportIf false nodes log full unsent limit rows = rows ≡ []
-IsReportIf true nodes log full unsent limit rows =
+-- rows are the report on a log in order, with how many receives were taken as local, what isn't told of how many events, which records were left
+-- out, and which claims are over the limit, or there are none if it isn't written
+abbrev pub IsReportIf : Bool → (nodes : List (List ℕ)) → LogInOrder → (full : ℕ) → (unsent : Option ℕ) → Option Skipped → (limit : Option ℕ) → List Fields → Type 0
+IsReportIf false nodes log full unsent skipped limit rows = rows ≡ []
+IsReportIf true nodes log full unsent skipped limit rows =
     (report over : List Fields) × IsReport nodes log full report × AreOverRows nodes log limit over
-    × (rows ≡ ((report ++ unsent_row unsent) ++ missing_rows log.events) ++ over)
+    × (rows ≡ ((report ++ unsent_row unsent) ++ missing_rows log.events skipped) ++ over)
 
 -- rows are the report on an opened log, if it is to be written, and the answers to what is asked
 pub record AreRowsTold (opened : OpenedLog) (rules : AuditRules) (asked : List Asked) (rows : List Fields) : Type 0 where
   pub report : List Fields
-  pub is_report : IsReportIf (is_reported rules asked) opened.nodes opened.log opened.full opened.unsent rules.limit report
+  pub is_report : IsReportIf (is_reported rules asked) opened.nodes opened.log opened.full opened.unsent opened.skipped rules.limit report
   pub answers : List Fields
   pub are_answers : AreAnswers opened.nodes opened.labels opened.log opened.full asked answers
   pub rows_are : rows ≡ report ++ answers
@@ -164,3 +172,11 @@ pub record IsBadTextShown (rules : AuditRules) (most : ℕ) (bytes before after 
 abbrev pub IsAudited : AuditRules → (most : ℕ) → List LogQuestion → (bytes before after : Option (List ℕ)) → Outcome → Type 0
 IsAudited rules most asked bytes before after result =
     IsWholeAudited rules most asked bytes before after result ⊎ IsBadTextShown rules most bytes before after result
+
+-- the bytes are a log of at most so many records, which has so many events once it is opened
+abbrev pub HasEventCount : LogRules → (most : ℕ) → (bytes : Option (List ℕ)) → (count : ℕ) → Type 0
+HasEventCount rules most bytes count = (opened : OpenedLog) × IsOpened rules most bytes opened × (count ≡ length opened.log.events)
+
+-- what an audit answers tells how many events the log has, if the bytes are one
+abbrev pub TellsEvents : LogRules → (most : ℕ) → (bytes : Option (List ℕ)) → Audited → Type 0
+TellsEvents rules most bytes audited = ¬ (audited.outcome ≡ outcome.BadLog) → HasEventCount rules most bytes audited.events

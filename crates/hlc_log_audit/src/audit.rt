@@ -1,13 +1,14 @@
-ghost use Rattle.std.specs.Prelude.{◌≡◌, ◌≤◌, List, Option, IfOk, IsErrOf, OnOk};
+ghost use Rattle.std.specs.Prelude.{◌≡◌, ◌≤◌, List, Option, IfOk, IsErrOf, OnOk, length};
 ghost use Rattle.std.specs.Io.KnownBytes.{Appends};
 ghost use Rattle.hlc_log_text.specs.StampForms.{greatest_c};
 ghost use Rattle.hlc_csv.specs.Rows.{AddsRows, Fields, text_of};
 ghost use Rattle.hlc_log_text.specs.ReadLog.{HasTooMany};
 ghost use Rattle.hlc_log_audit.specs.Answers.{AreAnswers};
-ghost use Rattle.hlc_log_audit.specs.Audit.{AreRowsTold, IsAudited, IsOutcome, IsReportIf, all_asked, counted_row, is_reported, missing_rows, unsent_row};
+ghost use Rattle.hlc_log_audit.specs.Audit.{AreRowsTold, IsAudited, IsOutcome, IsReportIf, TellsEvents, all_asked, counted_row, is_reported, missing_rows, skipped_row, unsent_row};
 ghost use Rattle.hlc_log_report.specs.Counts.{AreCounted};
 
 use crate::answer::push_answers;
+use crate::audited::Audited;
 use crate::counts::count_stamps;
 use crate::outcome::Outcome;
 use crate::overs::push_overs;
@@ -16,7 +17,7 @@ use crate::rules::AuditRules;
 use crate::soundness::outcome;
 use hlc_csv::{OutputFault, RecordsFault, RowBuffer};
 use hlc_log_report::{Counts, OrderedLog, count_messages, count_missing, skews_of};
-use hlc_log_text::LogQuestion;
+use hlc_log_text::{LogQuestion, Skipped};
 use hlc_open_log::{OpenFault, OpenLog, open_log, tell_bad};
 use hlc_stamp::MAX_CAPACITY;
 use std::alloc::Global;
@@ -51,18 +52,38 @@ fn push_counted<W: Write>(
     }
 }
 
-// Adds the rows that tell of how many events something isn't in the log: their send, what their clock read, or their stamp.
+// Adds the row that tells which records were left out of a log, if some were.
+fn push_skipped<W: Write>(
+    rows: &mut RowBuffer,
+    skipped: Option<Skipped>,
+    writer: &mut W,
+) -> Result<(), OutputFault>
+    ensures { OnOk result (AddsRows W.contents writer.old writer.new rows.old rows.new (skipped_row skipped)) }
+{
+    match skipped {
+        Some(skipped) => {
+            let numbers = [u64::from(skipped.count), u64::from(skipped.line)];
+            rows.push_numbers(b"skipped", &numbers, None, writer)
+        }
+        None => Ok(()),
+    }
+}
+
+// Adds the rows that tell of how many events something isn't in the log: their send, what their clock read, or their stamp; and which records
+// were left out of it.
 fn push_missing<W: Write>(
     rows: &mut RowBuffer,
     log: &OrderedLog,
+    skipped: Option<Skipped>,
     writer: &mut W,
 ) -> Result<(), OutputFault>
-    ensures { OnOk result (AddsRows W.contents writer.old writer.new rows.old rows.new (missing_rows log.now.events)) }
+    ensures { OnOk result (AddsRows W.contents writer.old writer.new rows.old rows.new (missing_rows log.now.events skipped)) }
 {
     let missing = count_missing(log);
     push_counted(rows, b"outside", missing.outside, writer)?;
     push_counted(rows, b"unread", missing.unread, writer)?;
-    push_counted(rows, b"unstamped", missing.unstamped, writer)
+    push_counted(rows, b"unstamped", missing.unstamped, writer)?;
+    push_skipped(rows, skipped, writer)
 }
 
 // Whether the report is written: the rules want it, or nothing is asked.
@@ -84,7 +105,8 @@ fn push_if_told<W: Write>(
 ) -> Result<(), OutputFault>
     requires { AreCounted log.now.log log.now.full counts }
     ensures { OnOk result ((report : List Fields)
-        × IsReportIf (is_reported rules (all_asked log.now.questions asked.now)) log.now.nodes log.now.log log.now.full log.now.unsent rules.limit report
+        × IsReportIf (is_reported rules (all_asked log.now.questions asked.now)) log.now.nodes log.now.log log.now.full log.now.unsent log.now.skipped
+        rules.limit report
         × AddsRows W.contents writer.old writer.new rows.old rows.new report) }
 {
     if !is_reported(rules, log.questions(), asked) {
@@ -94,7 +116,7 @@ fn push_if_told<W: Write>(
     let skews = skews_of(alloc, ordered)?;
     push_report(rows, log, counts, count_messages(ordered), &skews, writer)?;
     push_unsent(rows, log.unsent(), writer)?;
-    push_missing(rows, ordered, writer)?;
+    push_missing(rows, ordered, log.skipped(), writer)?;
     push_overs(rows, log, rules.limit, writer)
 }
 
@@ -133,22 +155,26 @@ fn tell_log<W: Write>(
     rows.finish(writer)
 }
 
-// Writes the rows that tell of a log that was opened by these rules, and says what its audit found.
+// Writes the rows that tell of a log that was opened by these rules, and answers what its audit found.
 fn audit_opened<W: Write>(
     alloc: Global,
     log: &OpenLog,
     rules: AuditRules,
     asked: &[LogQuestion],
     writer: &mut W,
-) -> Result<Outcome, OutputFault>
+) -> Result<Audited, OutputFault>
     requires { log.now.full ≡ greatest_c rules.records.form }
-    ensures { IfOk result (λ outcome. (told : List Fields) × AreRowsTold log.now rules (all_asked log.now.questions asked.now) told
+    ensures told { IfOk result (λ audited. (told : List Fields) × AreRowsTold log.now rules (all_asked log.now.questions asked.now) told
         × Appends (W.contents writer.old) (W.contents writer.new) (text_of told)
-        × IsOutcome rules log.now.log outcome) }
+        × IsOutcome rules log.now.log audited.outcome) }
+    ensures counted { IfOk result (λ audited. audited.events ≡ length log.now.log.events) }
 {
     let counts = count_stamps(log.ordered(), log.full());
     tell_log(alloc, log, counts, rules, asked, writer)?;
-    Ok(outcome(log.ordered(), counts, rules))
+    Ok(Audited {
+        outcome: outcome(log.ordered(), counts, rules),
+        events: log.ordered().len(),
+    })
 }
 
 /// Audits a log of at most so many records, as `audit_run` does.
@@ -159,9 +185,11 @@ pub fn audit_up_to<R: Read + Drop, W: Write>(
     rules: AuditRules,
     asked: &[LogQuestion],
     most: u32,
-) -> Result<Outcome, RecordsFault>
+) -> Result<Audited, RecordsFault>
     requires { most ≤ MAX_CAPACITY }
-    ensures audited { IfOk result (IsAudited rules most asked.now (R.remaining reader) (W.contents writer.old) (W.contents writer.new)) }
+    ensures audited { IfOk result (λ audited. IsAudited rules most asked.now
+        (R.remaining reader) (W.contents writer.old) (W.contents writer.new) audited.outcome) }
+    ensures counted { IfOk result (TellsEvents rules.records most (R.remaining reader)) }
     ensures read { IsErrOf result RecordsFault.Read → writer.new ≡ writer.old }
     ensures too_long { IsErrOf result RecordsFault.TooLong → HasTooMany rules.records most (R.remaining reader) }
     ensures nothing { IsErrOf result RecordsFault.TooLong → writer.new ≡ writer.old }
@@ -170,7 +198,10 @@ pub fn audit_up_to<R: Read + Drop, W: Write>(
         Ok(log) => Ok(audit_opened(alloc, &log, rules, asked, writer)?),
         Err(OpenFault::Bad(bad)) => {
             tell_bad(alloc, bad, writer)?;
-            Ok(Outcome::BadLog)
+            Ok(Audited {
+                outcome: Outcome::BadLog,
+                events: 0,
+            })
         }
         Err(OpenFault::Read) => Err(RecordsFault::Read),
         Err(OpenFault::TooLong) => Err(RecordsFault::TooLong),
@@ -189,8 +220,10 @@ pub fn audit_run<R: Read + Drop, W: Write>(
     writer: &mut W,
     rules: AuditRules,
     asked: &[LogQuestion],
-) -> Result<Outcome, RecordsFault>
-    ensures audited { IfOk result (IsAudited rules MAX_CAPACITY asked.now (R.remaining reader) (W.contents writer.old) (W.contents writer.new)) }
+) -> Result<Audited, RecordsFault>
+    ensures audited { IfOk result (λ audited. IsAudited rules MAX_CAPACITY asked.now
+        (R.remaining reader) (W.contents writer.old) (W.contents writer.new) audited.outcome) }
+    ensures counted { IfOk result (TellsEvents rules.records MAX_CAPACITY (R.remaining reader)) }
     ensures read { IsErrOf result RecordsFault.Read → writer.new ≡ writer.old }
     ensures too_long { IsErrOf result RecordsFault.TooLong → HasTooMany rules.records MAX_CAPACITY (R.remaining reader) }
     ensures nothing { IsErrOf result RecordsFault.TooLong → writer.new ≡ writer.old }

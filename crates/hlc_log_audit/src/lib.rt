@@ -4,7 +4,8 @@
 //! and why, how many messages there are, and what they show of the clocks. Answers say what forces a stamp, how events are related, and where a
 //! claimed stamp came from.
 //!
-//! `audit_run` reads a log and writes the report on it, and answers whether it is `Sound`, `Broken`, `OverLimit` or a `BadLog`. If the log asks questions,
+//! `audit_run` reads a log and writes the report on it, and answers whether it is `Sound`, `Broken`, `OverLimit` or a `BadLog`, and how many events
+//! it has. If the log asks questions,
 //! or its reader asks some beside it, the rows that answer them come in place of the report, or after it if `AuditRules` say so. Nodes have
 //! their names in these rows, and events the lines on which their records begin, so that the reader of a log finds them again.
 //!
@@ -23,6 +24,7 @@
 //! - `outside,N`: how many receives of such messages tell what these carried, if some do: they came in from outside of the log.
 //! - `unread,N`: how many events have no reading, if there are some.
 //! - `unstamped,N`: how many receives have no stamp, if there are some. Each has the one that the clock rule gives it, and no verdict.
+//! - `skipped,N,LINE`: how many records were left out of the log, and the line of the first, if there are some.
 //! - `over,NODE,N,LINE,AHEAD,ORIGIN`: how many events of a node claim an `l` that is above their told reading by more than the limit, if
 //!   there is one and there are some; the line of the first of them; the greatest such difference; and the line where that `l` came in.
 //!
@@ -38,7 +40,7 @@
 //!   was given, and `unstamped` in place of a verdict.
 //! - `refused,no-event` or `refused,no-node`, if the log has no such event or node.
 //!
-//! Text that is not a log is answered by the one row `bad,LINE,WHY`.
+//! Text that is not a log is answered by the one row `bad,LINE,WHY`, and a line of JSON lines that lacks a column by `bad,LINE,field,NAME`.
 //!
 //! Of an opened log (`hlc_open_log`) `push_report` adds the rows of the report, and `push_answer` the one row that answers a question
 //! (`hlc_log_text::LogQuestion`). `claimed_way` is the way that the `l` of a claimed stamp came, event by event.
@@ -59,8 +61,8 @@
 //!     ensures { IfOk result (λ audited. IsAudited rules MAX_CAPACITY [] (Some log.now) (Some []) (Some audited.1.items) audited.0) }
 //! {
 //!     let mut rows = Vec::new(alloc);
-//!     let outcome = audit_run(alloc, log, &mut rows, rules, &[])?;
-//!     Ok((outcome, rows))
+//!     let audited = audit_run(alloc, log, &mut rows, rules, &[])?;
+//!     Ok((audited.outcome, rows))
 //! }
 //! ```
 //!
@@ -87,6 +89,7 @@
 
 mod answer;
 mod audit;
+mod audited;
 mod causes;
 mod claimed;
 mod claimed_ahead;
@@ -113,6 +116,7 @@ mod words;
 
 pub use answer::push_answer;
 pub use audit::{audit_run, audit_up_to};
+pub use audited::Audited;
 pub use claimed::claimed_way;
 pub use hlc_csv::RecordsFault;
 pub use outcome::Outcome;

@@ -1,7 +1,7 @@
 -- What was audited.
-use Rattle.std.specs.Prelude.{◌≡◌, ◌⊎◌, ⊤, Bool, ℕ, List, Option, true, false}
+use Rattle.std.specs.Prelude.{◌≡◌, ◌==◌, ◌⊎◌, ⊤, Bool, ℕ, List, Option, None, Some, if◌then◌else◌, true, false}
 use Rattle.hlc_stamp.specs.declared.limits.TheConstants.{MAX_CAPACITY}
-use Rattle.hlc_log_audit.specs.Audit.{IsAudited}
+use Rattle.hlc_log_audit.specs.Audit.{HasEventCount, IsAudited}
 use Rattle.hlc_log_audit.specs.declared.outcome.Outcome.{Outcome}
 use Rattle.hlc_log_audit.specs.declared.outcome.Outcome.TheVariants as outcome
 use Rattle.hlc_log_audit.specs.declared.rules.AuditRules.{AuditRules}
@@ -9,6 +9,8 @@ use Rattle.hlc_log_text.specs.declared.question.LogQuestion.{LogQuestion}
 use Rattle.hlc_command_line.specs.declared.line_order.AuditOptions.{AuditOptions}
 use Rattle.hlc_command_fault.specs.declared.command_fault.CommandFault.{CommandFault}
 use Rattle.hlc_command_fault.specs.declared.command_fault.CommandFault.TheVariants as stop
+use Rattle.hlc_command_fault.specs.declared.no_events.NoEvents.{NoEvents}
+use Rattle.hlc_command_fault.specs.declared.no_events.NoEvents.TheVariants.{Log}
 
 -- the rules that the options of a command line give
 abbrev pub rules_of : AuditOptions → AuditRules
@@ -44,9 +46,23 @@ IsFoundOver options asked input before after =
     IsAuditedBy options asked input before after outcome.OverLimit
     ⊎ ((options.strict ≡ false) × IsAuditedBy options asked input before after (outcome.Broken true))
 
+-- the note on a log of so many events: it is there if there are none
+abbrev pub log_note : (events : ℕ) → Option NoEvents
+log_note events = if events == 0 then Some Log else None
+
+-- the input is a log, and this is the note on its events
+abbrev pub IsLogNote : AuditOptions → (input : Option (List ℕ)) → Option NoEvents → Type 0
+IsLogNote options input note = (events : ℕ) × HasEventCount options.records MAX_CAPACITY input events × (note ≡ log_note events)
+
+-- the log has no event, which strict options don't let pass, and the output got what is told of it
+abbrev pub IsFoundEmpty : AuditOptions → List LogQuestion → (input before after : Option (List ℕ)) → Type 0
+IsFoundEmpty options asked input before after =
+    (options.strict ≡ true) × IsLogNote options input (Some Log) × IsAuditPassed options asked input before after
+
 -- the log was audited but for this fault, of which the answer tells
 abbrev pub IsAuditedBut : CommandFault → AuditOptions → List LogQuestion → (input before after : Option (List ℕ)) → Type 0
 IsAuditedBut stop.BadLog options asked input before after = IsFoundBad options asked input before after
+IsAuditedBut stop.EmptyLog options asked input before after = IsFoundEmpty options asked input before after
 IsAuditedBut stop.BrokenStamps options asked input before after = IsFoundBroken options asked input before after
 IsAuditedBut stop.OverLimit options asked input before after = IsFoundOver options asked input before after
 IsAuditedBut _ options asked input before after = ⊥

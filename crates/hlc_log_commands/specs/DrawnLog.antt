@@ -7,9 +7,6 @@ use Rattle.hlc_diagram.specs.ChainPicture.{chain_picture_text}
 use Rattle.hlc_diagram.specs.Picture.{picture_text}
 use Rattle.hlc_diagram.specs.declared.view.View.{View}
 use Rattle.hlc_open_log.specs.Opened.{IsOpened, OpenedLog}
-use Rattle.hlc_open_log.specs.Unopened.{ExplainsOpenFault, bad_text}
-use Rattle.hlc_open_log.specs.declared.bad_input.BadInput.{BadInput}
-use Rattle.hlc_open_log.specs.declared.fault.OpenFault.TheVariants as fault
 use Rattle.hlc_log_picture.specs.Drawn.{DrawnLog, IsDrawnOf, drawn_log, drawn_log_chain}
 use Rattle.hlc_log_picture.specs.Viewed.{HasNoRow, IsRowOn, IsViewAround, IsViewBetween}
 use Rattle.hlc_command_line.specs.declared.line_order.DrawLogOptions.{DrawLogOptions}
@@ -19,6 +16,7 @@ use Rattle.hlc_command_line.specs.declared.line_order.LogRows.{LogRows}
 use Rattle.hlc_command_line.specs.declared.line_order.LogRows.TheVariants.{Around, Between}
 use Rattle.hlc_command_fault.specs.declared.command_fault.CommandFault.{CommandFault}
 use Rattle.hlc_command_fault.specs.declared.command_fault.CommandFault.TheVariants as stop
+use Rattle.hlc_log_commands.specs.Unopened.{IsToldBad}
 
 -- a view has the rows of a log that are to be drawn, and explains the event of a line
 abbrev pub IsViewOf : DrawnLog → LogRows → (explained : Option ℕ) → View → Type 0
@@ -80,8 +78,7 @@ IsLogLacking most options input before after =
 
 -- the input is no log, and the output got the row by which an audit says why
 abbrev pub IsNotDrawn : (most : ℕ) → DrawLogOptions → (input before after : Option (List ℕ)) → Type 0
-IsNotDrawn most options input before after =
-    (bad : BadInput) × ExplainsOpenFault options.records most input (fault.Bad bad) × Appends before after (bad_text bad)
+IsNotDrawn most options input before after = IsToldBad most options.records input before after
 
 -- the log of at most so many records wasn't drawn for this fault, of which the status or the answer tells
 abbrev pub IsLogDrawnUpToBut : (most : ℕ) → CommandFault → DrawLogOptions → (input before after : Option (List ℕ)) → Type 0

@@ -1,44 +1,90 @@
 // The audit of another system's log.
 
-ghost use Rattle.std.specs.Prelude.{◌≡◌, IfErr, IsErrOf, OnOk};
+ghost use Rattle.std.specs.Prelude.{◌≡◌, IfErr, IfOk, IsErrOf, None, OnOk, true};
 ghost use Rattle.hlc_stamp.specs.declared.limits.TheConstants.{MAX_CAPACITY};
 ghost use Rattle.hlc_log_text.specs.ReadLog.{HasTooMany};
+ghost use Rattle.hlc_log_audit.specs.Audit.{IsAudited, TellsEvents};
 ghost use Rattle.hlc_command_fault.specs.Fault.{IsOfAnswer, IsOfInput};
-ghost use Rattle.hlc_log_commands.specs.Audited.{IsAuditPassed, IsAuditedBut};
+ghost use Rattle.hlc_log_commands.specs.Audited.{IsAuditPassed, IsAuditedBut, IsLogNote, log_note};
+ghost use Rattle.hlc_log_commands.specs.Records.{records_in};
 
-use hlc_command_fault::CommandFault;
+use hlc_command_fault::{CommandFault, NoEvents};
 use hlc_command_line::AuditOptions;
 use hlc_csv::RecordsFault;
-use hlc_log_audit::{AuditRules, Outcome, audit_run};
+use hlc_json_lines::{JsonRules, LogInput};
+use hlc_log_audit::{AuditRules, Audited, Outcome, audit_run};
 use hlc_log_text::LogQuestion;
 use std::alloc::Global;
 use std::io::{Read, Write};
 
-/// Audits a log of another system, and answers what is asked beside it. If the input is not a log, the log is broken and the options are
-/// strict, or it is over the limit, the rows that say so are written all the same. Of a log that is both, a strict audit says that it is broken.
+// Audits a log in records, or in lines of JSON.
+fn audit_records<I: Read + Drop, O: Write>(
+    alloc: Global,
+    reader: I,
+    writer: &mut O,
+    rules: AuditRules,
+    asked: &[LogQuestion],
+    json: Option<JsonRules>,
+) -> Result<Audited, RecordsFault>
+    ensures audited { IfOk result (λ audited. IsAudited rules MAX_CAPACITY asked.now
+        (records_in json (I.remaining reader)) (O.contents writer.old) (O.contents writer.new) audited.outcome) }
+    ensures counted { IfOk result (TellsEvents rules.records MAX_CAPACITY (records_in json (I.remaining reader))) }
+    ensures read { IsErrOf result RecordsFault.Read → writer.new ≡ writer.old }
+    ensures too_long { IsErrOf result RecordsFault.TooLong → HasTooMany rules.records MAX_CAPACITY (records_in json (I.remaining reader)) }
+    ensures nothing { IsErrOf result RecordsFault.TooLong → writer.new ≡ writer.old }
+{
+    match LogInput::new(alloc, reader, json) {
+        Ok(input) => audit_run(alloc, input, writer, rules, asked),
+        Err(_) => Err(RecordsFault::Memory),
+    }
+}
+
+// The note on a log of so many events, if there is one. If it says that there are none, it is a fault for a strict audit.
+fn note_on(events: u32, strict: bool) -> Result<Option<NoEvents>, CommandFault>
+    ensures noted { IfOk result (λ note. note ≡ log_note events) }
+    ensures strict { IfOk result (λ note. strict ≡ true → note ≡ None) }
+    ensures empty { IfErr result (λ fault. (fault ≡ CommandFault.EmptyLog) × (strict ≡ true) × (log_note events ≡ Some NoEvents.Log)) }
+{
+    match (events, strict) {
+        (0, true) => Err(CommandFault::EmptyLog),
+        (0, false) => Ok(Some(NoEvents::Log)),
+        _ => Ok(None),
+    }
+}
+
+/// Audits a log of another system, and answers what is asked beside it. The log is lines of JSON if there are rules for these. If the input is
+/// not a log, the log is broken or has no event and the options are strict, or it is over the limit, the rows that say so are written all the same.
+/// Of a log that is both, a strict audit says that it is broken. The note on the log is there if it has no event.
 pub fn audit_log<I: Read + Drop, O: Write>(
     alloc: Global,
     reader: I,
     writer: &mut O,
     options: AuditOptions,
     asked: &[LogQuestion],
-) -> Result<(), CommandFault>
-    ensures done { OnOk result (IsAuditPassed options asked.now (I.remaining reader) (O.contents writer.old) (O.contents writer.new)) }
+    json: Option<JsonRules>,
+) -> Result<Option<NoEvents>, CommandFault>
+    ensures done { OnOk result (IsAuditPassed options asked.now
+        (records_in json (I.remaining reader)) (O.contents writer.old) (O.contents writer.new)) }
+    ensures noted { IfOk result (IsLogNote options (records_in json (I.remaining reader))) }
+    ensures strict { IfOk result (λ note. options.strict ≡ true → note ≡ None) }
     ensures told { IfErr result (λ fault. IsOfAnswer fault → IsAuditedBut fault options asked.now
-        (I.remaining reader) (O.contents writer.old) (O.contents writer.new)) }
+        (records_in json (I.remaining reader)) (O.contents writer.old) (O.contents writer.new)) }
     ensures unread { IfErr result (λ fault. IsOfInput fault → writer.new ≡ writer.old) }
-    ensures too_long { IsErrOf result (CommandFault.Records RecordsFault.TooLong) → HasTooMany options.records MAX_CAPACITY (I.remaining reader) }
+    ensures too_long { IsErrOf result (CommandFault.Records RecordsFault.TooLong)
+        → HasTooMany options.records MAX_CAPACITY (records_in json (I.remaining reader)) }
 {
     let rules = AuditRules {
         records: options.records,
         limit: options.limit,
         report: options.report,
     };
-    let outcome = audit_run(alloc, reader, writer, rules, asked)?;
-    match outcome {
+    let audited = audit_records(alloc, reader, writer, rules, asked, json)?;
+    match audited.outcome {
         Outcome::BadLog => Err(CommandFault::BadLog),
         Outcome::Broken { .. } if options.strict => Err(CommandFault::BrokenStamps),
         Outcome::Broken { over_limit: true } | Outcome::OverLimit => Err(CommandFault::OverLimit),
-        Outcome::Broken { over_limit: false } | Outcome::Sound => Ok(()),
+        Outcome::Broken { over_limit: false } | Outcome::Sound => {
+            note_on(audited.events, options.strict)
+        }
     }
 }

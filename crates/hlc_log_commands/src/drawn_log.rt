@@ -6,12 +6,15 @@ ghost use Rattle.hlc_log_text.specs.ReadLog.{HasTooMany};
 ghost use Rattle.hlc_command_line.specs.declared.line_order.LogPart.TheVariants.{Chain, Rows};
 ghost use Rattle.hlc_command_fault.specs.Fault.{IsOfAnswer, IsOfInput};
 ghost use Rattle.hlc_log_commands.specs.DrawnLog.{IsAbsent, IsLogDrawnBut, IsLogDrawnUpTo, IsLogDrawnUpToBut, IsLogDrawnWhole, IsOpenedDrawn, IsOpenedLacking, IsPartDrawn, IsViewOf, LacksNamed, line_of_rows};
+ghost use Rattle.hlc_log_commands.specs.Records.{records_in};
 
+use crate::opening::open_or_tell;
 use hlc_command_fault::CommandFault;
 use hlc_command_line::{DrawLogOptions, LogPart, LogRows};
 use hlc_csv::RecordsFault;
+use hlc_json_lines::JsonRules;
 use hlc_log_picture::{DrawFault, PicturedLog, View, draw, draw_chain, put_in_row_order};
-use hlc_open_log::{OpenFault, OpenLog, open_log, tell_bad};
+use hlc_open_log::OpenLog;
 use hlc_stamp::MAX_CAPACITY;
 use std::alloc::Global;
 use std::io::{Read, Write};
@@ -126,44 +129,39 @@ pub fn draw_log_up_to<I: Read + Drop, O: Write>(
     reader: I,
     writer: &mut O,
     options: DrawLogOptions,
+    json: Option<JsonRules>,
     most: u32,
 ) -> Result<(), CommandFault>
     requires { most ≤ MAX_CAPACITY }
-    ensures done { OnOk result (IsLogDrawnUpTo most options (I.remaining reader) (O.contents writer.old) (O.contents writer.new)) }
+    ensures done { OnOk result (IsLogDrawnUpTo most options
+        (records_in json (I.remaining reader)) (O.contents writer.old) (O.contents writer.new)) }
     ensures told { IfErr result (λ fault. IsOfAnswer fault → IsLogDrawnUpToBut most fault options
-        (I.remaining reader) (O.contents writer.old) (O.contents writer.new)) }
+        (records_in json (I.remaining reader)) (O.contents writer.old) (O.contents writer.new)) }
     ensures unread { IfErr result (λ fault. IsOfInput fault → writer.new ≡ writer.old) }
-    ensures too_long { IsErrOf result (CommandFault.Records RecordsFault.TooLong) → HasTooMany options.records most (I.remaining reader) }
+    ensures too_long { IsErrOf result (CommandFault.Records RecordsFault.TooLong)
+        → HasTooMany options.records most (records_in json (I.remaining reader)) }
 {
-    match open_log(alloc, reader, options.records, most) {
-        Ok(mut log) => {
-            draw_opened(alloc, &mut log, options.part, writer)?;
-            Ok(())
-        }
-        Err(OpenFault::Bad(bad)) => {
-            tell_bad(alloc, bad, writer)?;
-            Err(CommandFault::BadLog)
-        }
-        Err(OpenFault::Read) => Err(CommandFault::Records(RecordsFault::Read)),
-        Err(OpenFault::TooLong) => Err(CommandFault::Records(RecordsFault::TooLong)),
-        Err(OpenFault::Memory) => Err(CommandFault::Records(RecordsFault::Memory)),
-    }
+    let mut log = open_or_tell(alloc, reader, writer, options.records, json, most)?;
+    draw_opened(alloc, &mut log, options.part, writer)?;
+    Ok(())
 }
 
-/// Draws a part of a log of another system, where receives tick with the rows in the order of the least stamps, else in a causal one. If the input is not a log, the row that an
-/// audit writes about it is written. If the event to explain, the first one, or the one about which rows are drawn isn't there, nothing
-/// is written.
+/// Draws a part of a log of another system, which is lines of JSON if there are rules for these. Where receives tick its rows are in the order
+/// of the least stamps, else in a causal one. If the input is not a log, the row that an audit writes about it is written. If the event to
+/// explain, the first one, or the one about which rows are drawn isn't there, nothing is written.
 pub fn draw_log<I: Read + Drop, O: Write>(
     alloc: Global,
     reader: I,
     writer: &mut O,
     options: DrawLogOptions,
+    json: Option<JsonRules>,
 ) -> Result<(), CommandFault>
-    ensures done { OnOk result (IsLogDrawnWhole options (I.remaining reader) (O.contents writer.old) (O.contents writer.new)) }
+    ensures done { OnOk result (IsLogDrawnWhole options (records_in json (I.remaining reader)) (O.contents writer.old) (O.contents writer.new)) }
     ensures told { IfErr result (λ fault. IsOfAnswer fault → IsLogDrawnBut fault options
-        (I.remaining reader) (O.contents writer.old) (O.contents writer.new)) }
+        (records_in json (I.remaining reader)) (O.contents writer.old) (O.contents writer.new)) }
     ensures unread { IfErr result (λ fault. IsOfInput fault → writer.new ≡ writer.old) }
-    ensures too_long { IsErrOf result (CommandFault.Records RecordsFault.TooLong) → HasTooMany options.records MAX_CAPACITY (I.remaining reader) }
+    ensures too_long { IsErrOf result (CommandFault.Records RecordsFault.TooLong)
+        → HasTooMany options.records MAX_CAPACITY (records_in json (I.remaining reader)) }
 {
-    draw_log_up_to(alloc, reader, writer, options, MAX_CAPACITY)
+    draw_log_up_to(alloc, reader, writer, options, json, MAX_CAPACITY)
 }

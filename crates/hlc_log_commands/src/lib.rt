@@ -1,16 +1,21 @@
-//! The commands of `hlc` that take logs of other systems: a log audited, and a log drawn.
+//! The commands of `hlc` that take logs of other systems: a log audited, a log drawn, and a log with vectors.
 //!
 //! Each is a function over a reader and a writer, and answers with the fault that stopped it.
 //!
 //! - `audit_log` audits a log, as `hlc audit` does, and answers what is asked beside it.
 //! - `draw_log` draws a part of it, as `hlc draw-log` does, and `draw_log_up_to` one of a log of at most so many records.
+//! - `vectors_of_log` writes it with the vectors of its events, as `hlc vectors` does.
 //!
-//! It reads no command line: `hlc_command_line` does. Nothing is written before all of a log was read.
+//! A log is read in records, or in lines of JSON, if there are rules for these (`hlc_json_lines`). It reads no command line: `hlc_command_line`
+//! does. Nothing is written before all of a log was read.
 #![tactic(auto)]
 
 mod audited_log;
 mod drawn_log;
+mod log_with_vectors;
+mod opening;
 
 pub use audited_log::audit_log;
 pub use drawn_log::{draw_log, draw_log_up_to};
 pub use hlc_command_fault::CommandFault;
+pub use log_with_vectors::vectors_of_log;

@@ -62,12 +62,13 @@ with_no_rule event kind.Outside none = absurd (cc none)
 -- so it is of events that tell their readings and their stamps and have no rule of their own
 none_missing : (events : List LogEvent) → ((e : ℕ) → e < length events → own_rule Tick (event_at events e) ≡ None)
     → ((e : ℕ) → e < length events → (event_at events e).has_reading ≡ true)
-    → ((e : ℕ) → e < length events → (event_at events e).has_stamp ≡ true) → missing_rows events ≡ []
+    → ((e : ℕ) → e < length events → (event_at events e).has_stamp ≡ true) → missing_rows events None ≡ []
 none_missing events ruled read stamped =
-    ap (λ (rows : List Fields). rows ++ (unread_row events ++ unstamped_row events))
+    ap (λ (rows : List Fields). rows ++ (unread_row events ++ (unstamped_row events ++ [])))
     (none_counted (codes "outside") (λ event. is_from_outside event.kind) events (λ e lt. with_no_rule (event_at events e) (event_at events e).kind (ruled e lt)))
-    ∙ ap (λ (rows : List Fields). rows ++ unstamped_row events)
+    ∙ ap (λ (rows : List Fields). rows ++ (unstamped_row events ++ []))
     (none_counted (codes "unread") is_unread events (λ e lt. ap not (read e lt)))
+    ∙ append-nil (unstamped_row events)
     ∙ none_counted (codes "unstamped") is_unstamped events (λ e lt. ap not (stamped e lt))
 
 -- events that tell their stamps are filled in as they are
@@ -102,7 +103,7 @@ module _ (h : History) (clocked : IsClocked h) (report : Bool) (text : LogText) 
   is_history : IsHistoryLog h.events text.log.events
   is_history = log_is_read h clocked text read
 
-  nothing_missing : missing_rows text.log.events ≡ []
+  nothing_missing : missing_rows text.log.events None ≡ []
   nothing_missing = none_missing text.log.events
       (λ e lt. is_history.no_rule Tick e (let size = is_history.size in omega arith))
       (λ e lt. logs_tell_readings h text e clocked read lt)
@@ -126,14 +127,15 @@ module _ (h : History) (clocked : IsClocked h) (report : Bool) (text : LogText) 
       let clean = logs_audit_clean h text log clocked read is.ordered.receives events in_order in
       let same = clean.0 in
       let right = clean.1 in
+      let none_skipped : opened.skipped ≡ None = is.skipped ∙ alone.2 in
       let none_asked : all_asked opened.questions [] ≡ [] = ap (λ (questions : List LogQuestion). all_asked questions []) (is.questions ∙ alone.1) in
       let whole = told_report opened rules (all_asked opened.questions []) told.rows none_asked told.told in
       let is_report : IsReport opened.nodes log opened.full told.rows =
       subst (IsReport opened.nodes log opened.full)
       (sym (
       whole.4
-      ∙ ap (λ (unsent : Option ℕ). ((whole.0 ++ unsent_row unsent) ++ missing_rows log.events) ++ whole.1) is.ordered.taken
-      ∙ ap (λ (missing : List Fields). ((whole.0 ++ []) ++ missing) ++ whole.1) (ap missing_rows events ∙ nothing_missing)
+      ∙ ap (λ (unsent : Option ℕ). ((whole.0 ++ unsent_row unsent) ++ missing_rows log.events opened.skipped) ++ whole.1) is.ordered.taken
+      ∙ ap (λ (missing : List Fields). ((whole.0 ++ []) ++ missing) ++ whole.1) ((λ i. missing_rows (events i) (none_skipped i)) ∙ nothing_missing)
       ∙ ap (λ (over : List Fields). ((whole.0 ++ []) ++ []) ++ over) whole.3
       ∙ append-nil ((whole.0 ++ []) ++ []) ∙ append-nil (whole.0 ++ []) ∙ append-nil whole.0
       )) whole.2 in

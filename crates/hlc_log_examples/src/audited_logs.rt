@@ -17,6 +17,6 @@ pub fn audit_log(
     ensures { IfOk result (λ audited. IsAudited rules MAX_CAPACITY [] (Some log.now) (Some []) (Some audited.1.items) audited.0) }
 {
     let mut rows = Vec::new(alloc);
-    let outcome = audit_run(alloc, log, &mut rows, rules, &[])?;
-    Ok((outcome, rows))
+    let audited = audit_run(alloc, log, &mut rows, rules, &[])?;
+    Ok((audited.outcome, rows))
 }

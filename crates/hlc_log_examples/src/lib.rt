@@ -10,8 +10,10 @@ mod drawn_logs;
 mod first_causes;
 mod history_logs;
 pub mod laws;
+mod log_vectors;
 mod ordered_messages;
 mod packed_fields;
+mod read_lines;
 
 pub use answered_questions::answer_text;
 pub use audited_logs::audit_log;
@@ -20,5 +22,7 @@ pub use counted_messages::messages_of;
 pub use drawn_logs::draw_log;
 pub use first_causes::first_cause;
 pub use history_logs::log_of;
+pub use log_vectors::vectors_of;
 pub use ordered_messages::order_message;
 pub use packed_fields::stamp_of_field;
+pub use read_lines::records_of;

@@ -5,8 +5,8 @@ ghost use Rattle.hlc_stamp.specs.declared.limits.TheConstants.{MAX_CAPACITY};
 
 use crate::slow::Slow;
 use hlc_causality::Receives;
-use hlc_log_audit::{AuditRules, Outcome, RecordsFault, audit_run, audit_up_to};
-use hlc_log_text::{LogRules, PackedBits, StampForm};
+use hlc_log_audit::{AuditRules, Audited, Outcome, RecordsFault, audit_run, audit_up_to};
+use hlc_log_text::{LogRules, PackedBits, RecordSyntax, StampForm};
 use std::alloc::Global;
 use std::io::{self, ErrorKind, Write};
 use std::process::Abort;
@@ -14,7 +14,9 @@ use std::process::Abort;
 // A log with stamps of two fields, and no limit.
 pub(crate) const PAIRS: AuditRules = AuditRules {
     records: LogRules {
+        syntax: RecordSyntax::Csv,
         form: StampForm::Pair,
+        units: None,
         tolerance: 0,
         receives: Receives::Tick,
         unsent_local: false,
@@ -26,14 +28,15 @@ pub(crate) const PAIRS: AuditRules = AuditRules {
 // What is found of a log with a stamp that is behind or not above another one, or with a message that carried another, and no limit.
 pub(crate) const BROKEN: Outcome = Outcome::Broken { over_limit: false };
 
-// Compares what an audit writes and what it ends in.
+// Compares what an audit writes and what it finds.
 pub(crate) fn expect_audited(
     rt: &impl Abort,
     written: &[u8],
     rows: &str,
-    found: Result<Outcome, RecordsFault>,
+    audited: Result<Audited, RecordsFault>,
     outcome: Result<Outcome, RecordsFault>,
 ) {
+    let found = audited.map(|audited| audited.outcome);
     assert!(rt; found == outcome, "{found:?} in place of {rows}");
     assert!(rt; written == rows.as_bytes(), "not {rows}");
 }
@@ -47,7 +50,9 @@ const MESSAGE_ROWS: &str =
 // A receive of a message that nobody sends is a local event.
 const UNSENT_LOCAL: AuditRules = AuditRules {
     records: LogRules {
+        syntax: RecordSyntax::Csv,
         form: StampForm::Pair,
+        units: None,
         tolerance: 0,
         receives: Receives::Tick,
         unsent_local: true,
@@ -58,7 +63,9 @@ const UNSENT_LOCAL: AuditRules = AuditRules {
 
 const DOTTED: AuditRules = AuditRules {
     records: LogRules {
+        syntax: RecordSyntax::Csv,
         form: StampForm::Dotted,
+        units: None,
         tolerance: 0,
         receives: Receives::Tick,
         unsent_local: false,
@@ -224,6 +231,7 @@ fn receives_may_merge(rt: HostRuntime) {
     for (receives, rows, outcome) in &RECEIVES {
         let rules = AuditRules {
             records: LogRules {
+                syntax: RecordSyntax::Csv,
                 receives: *receives,
                 ..PAIRS.records
             },
@@ -292,6 +300,7 @@ const MERGED_RESTART: &str =
 fn a_restart_counts_on_where_receives_merge(rt: HostRuntime) {
     let rules = AuditRules {
         records: LogRules {
+            syntax: RecordSyntax::Csv,
             receives: Receives::Merge,
             ..PAIRS.records
         },
@@ -536,6 +545,7 @@ fn receives_from_outside_may_merge(rt: HostRuntime) {
     for (receives, rows, outcome) in &OUTSIDE {
         let rules = AuditRules {
             records: LogRules {
+                syntax: RecordSyntax::Csv,
                 receives: *receives,
                 ..PAIRS.records
             },

@@ -10,6 +10,10 @@ mod causes;
 #[cfg(test)]
 mod first_callers;
 #[cfg(test)]
+mod json_lines;
+#[cfg(test)]
+mod json_records;
+#[cfg(test)]
 mod log_lines;
 #[cfg(test)]
 mod log_texts;

@@ -3,7 +3,7 @@
 use crate::audits::{BROKEN, PAIRS, expect_audited, expect_report};
 use hlc_causality::Receives;
 use hlc_log_audit::{AuditRules, Outcome, audit_run};
-use hlc_log_text::{Line, LogQuestion, LogRules, StampForm};
+use hlc_log_text::{Line, LogQuestion, LogRules, RecordSyntax, StampForm};
 use std::alloc::Global;
 use std::process::Abort;
 
@@ -87,6 +87,7 @@ fn a_stamp_is_given_by_the_rule_of_receives(rt: HostRuntime) {
     for (receives, rows) in &GIVEN {
         let rules = AuditRules {
             records: LogRules {
+                syntax: RecordSyntax::Csv,
                 receives: *receives,
                 ..PAIRS.records
             },
@@ -101,7 +102,9 @@ const ASKING: &str = "event,2\nlocal,a,10,9,0\n";
 
 const REPORTED: AuditRules = AuditRules {
     records: LogRules {
+        syntax: RecordSyntax::Csv,
         form: StampForm::Pair,
+        units: None,
         tolerance: 0,
         receives: Receives::Tick,
         unsent_local: false,

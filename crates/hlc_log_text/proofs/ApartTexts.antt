@@ -110,6 +110,7 @@ module _ (items : List LogItem) (lines : List ℕ) (partial : PartialLog) (h : I
       lines_rise = rising_same (apart_text partial).log.events raw (lines_apart_if (length partial.messages) (nodes_named partial.nodes partial.senders (length raw)) raw (unnamed_in partial.messages)) h.held.log.lines_rise;
     };
     questions = h.held.questions;
+    skipped = h.held.skipped;
   }
 
 on_lines_same : (bytes : Option (List ℕ)) (items : List LogItem) (these others : List LogEvent)
@@ -131,6 +132,7 @@ is_whole rules most bytes partial h = record {
   on_lines = on_lines_same bytes h.items (apart_text partial).log.events partial.log.events
       (lines_apart_if (length partial.messages) (nodes_named partial.nodes partial.senders (length partial.log.events)) partial.log.events (unnamed_in partial.messages))
       h.on_lines;
+  skipped = h.skipped;
 }
 
 pub is_text_read : (rules : LogRules) (most : ℕ) (bytes : Option (List ℕ)) (old new : PartialLog) (nodes : List (List ℕ)) → IsFinished old new nodes

@@ -27,6 +27,7 @@ by_head form w from fields (Err why) (Some None) = refl
 by_head form w from fields (Err why) (Some (Some stamp)) = refl
 by_head form w from fields (Err bad.Word) None = refl
 by_head form w from fields (Err bad.Header) None = refl
+by_head form w from fields (Err (bad.Missing column)) None = refl
 by_head form w from fields (Err bad.Fields) None = refl
 by_head form w from fields (Err bad.Number) None = refl
 by_head form w from fields (Err bad.Name) None = refl

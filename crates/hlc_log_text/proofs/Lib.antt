@@ -10,3 +10,4 @@ pub mod ApartTexts
 pub mod ReadingFacts
 pub mod CarriedItems
 pub mod StampsTold
+pub mod TakenItems

@@ -1,5 +1,5 @@
 -- One more record of a log, and its event.
-use Rattle.std.proofs.Common.{◌≡◌, ◌∙◌, ℕ, zero, suc, ◌+◌, ◌<◌, ◌≤◌, All, AllPairs, List, [], ◌∷◌, ◌++◌, Option, Some, None, ap, arith, cond, length, length-append, map, refl, sym, subst}
+use Rattle.std.proofs.Common.{◌≡◌, ◌∙◌, ℕ, zero, suc, ◌+◌, ◌<◌, ◌≤◌, All, AllPairs, Bool, true, false, List, [], ◌∷◌, ◌++◌, Option, Some, None, ap, arith, cond, filter, length, length-append, map, refl, sym, subst}
 use Rattle.std.specs.Prelude.{◌==◌, slice_get}
 use Rattle.std.specs.Option.{option_and_then}
 use Rattle.std.specs.List.{filter_map}
@@ -14,14 +14,16 @@ use Rattle.hlc_log.specs.Events.{IsMessageBelow, IsNumbered}
 use Rattle.hlc_log_text.specs.Names.{first_mentions, with_name}
 use Rattle.hlc_log_text.specs.declared.columns.Columns.{Columns}
 use Rattle.hlc_log_text.specs.Labels.{GivesLabel, label_at}
-use Rattle.hlc_log_text.specs.LogItem.{Asks, LogItem, Names, Tells, columns_after, event_lines, events_in, if_asked, if_event, questions_in}
+use Rattle.hlc_log_text.specs.LogItem.{Asks, LogItem, Names, Skips, Tells, event_lines, events_in, header_columns, if_asked, if_event, is_telling, lines_where, questions_in}
 use Rattle.hlc_log_text.specs.LogText.{IsRawLogOf, IsNamed, IsRawTextOf, kind_message, message_names, node_names, record_count, sender_of_event, with_names}
 use Rattle.hlc_log_text.specs.PartialLog.{IsNextLine, IsPartialLog, last_of, text_of, with_message}
 use Rattle.hlc_log_text.specs.NamedEvent.{NamedEvent, without_asides}
 use Rattle.hlc_log_text.specs.Question.{Asked, plain_asked}
+use Rattle.hlc_log_text.specs.Skipped.{is_skip, skip_count, skipped_count, skipped_in, skipped_on, with_skip}
 use Rattle.hlc_log_text.specs.declared.log_text.LogText.{LogText}
 use Rattle.hlc_log_text.specs.declared.question.LogQuestion.{LogQuestion}
 use Rattle.hlc_log_text.specs.declared.partial_log.PartialLog.{PartialLog}
+use Rattle.hlc_log_text.specs.declared.skipped.Skipped.{Skipped}
 use Rattle.hlc_log_text.proofs.NameFacts.{first_mentions-push, length-with_name, name_of-with_name}
 
 -- the names that one more record mentions
@@ -94,9 +96,6 @@ module _ (nodes messages : List (List ℕ)) (node : List ℕ) (m : Option (List 
 pub events_in-tells : (items : List LogItem) (event : NamedEvent) → events_in (items ++ Tells event ∷ []) ≡ events_in items ++ event ∷ []
 events_in-tells items event = filter_map-append if_event items (Tells event ∷ [])
 
-pub events_in-asks : (items : List LogItem) (asked : Asked) → events_in (items ++ Asks asked ∷ []) ≡ events_in items
-events_in-asks items asked = filter_map-append if_event items (Asks asked ∷ []) ∙ append-nil (events_in items)
-
 pub questions_in-tells : (items : List LogItem) (event : NamedEvent) → questions_in (items ++ Tells event ∷ []) ≡ questions_in items
 questions_in-tells items event = filter_map-append if_asked items (Tells event ∷ []) ∙ append-nil (questions_in items)
 
@@ -104,25 +103,47 @@ pub questions_in-asks : (items : List LogItem) (asked : Asked) → questions_in 
 questions_in-asks items asked = filter_map-append if_asked items (Asks asked ∷ [])
 
 -- the line of one more record
-pub event_lines-tells : (items : List LogItem) (lines : List ℕ) (event : NamedEvent) (line : ℕ) → length lines ≡ length items
-    → event_lines (items ++ Tells event ∷ []) (lines ++ line ∷ []) ≡ event_lines items lines ++ line ∷ []
-event_lines-tells [] [] event line each = refl
-event_lines-tells [] (l ∷ lines) event line each = absurd (omega (arith, each))
-event_lines-tells (item ∷ items) [] event line each = absurd (omega (arith, each))
-event_lines-tells (Tells e ∷ items) (l ∷ lines) event line each =
-    ap (λ (ls : List ℕ). l ∷ ls) (event_lines-tells items lines event line (omega (arith, each)))
-event_lines-tells (Asks a ∷ items) (l ∷ lines) event line each = event_lines-tells items lines event line (omega (arith, each))
-event_lines-tells (Names c ∷ items) (l ∷ lines) event line each = event_lines-tells items lines event line (omega (arith, each))
+lines_where-more : (is_so : LogItem → Bool) (items : List LogItem) (lines : List ℕ) (item : LogItem) (line : ℕ) → length lines ≡ length items
+    → lines_where is_so (items ++ item ∷ []) (lines ++ line ∷ []) ≡ lines_where is_so items lines ++ cond (is_so item) (line ∷ []) []
+lines_where-more is_so [] [] item line each = refl
+lines_where-more is_so [] (l ∷ lines) item line each = absurd (omega (arith, each))
+lines_where-more is_so (i ∷ items) [] item line each = absurd (omega (arith, each))
+lines_where-more is_so (i ∷ items) (l ∷ lines) item line each = by (is_so i) (lines_where-more is_so items lines item line (omega (arith, each))) where
+  by : (here : Bool) → lines_where is_so (items ++ item ∷ []) (lines ++ line ∷ []) ≡ lines_where is_so items lines ++ cond (is_so item) (line ∷ []) []
+      → cond here (l ∷ lines_where is_so (items ++ item ∷ []) (lines ++ line ∷ [])) (lines_where is_so (items ++ item ∷ []) (lines ++ line ∷ []))
+      ≡ cond here (l ∷ lines_where is_so items lines) (lines_where is_so items lines) ++ cond (is_so item) (line ∷ []) []
+  by true rest = ap (λ (ls : List ℕ). l ∷ ls) rest
+  by false rest = rest
 
-pub event_lines-asks : (items : List LogItem) (lines : List ℕ) (asked : Asked) (line : ℕ) → length lines ≡ length items
-    → event_lines (items ++ Asks asked ∷ []) (lines ++ line ∷ []) ≡ event_lines items lines
-event_lines-asks [] [] asked line each = refl
-event_lines-asks [] (l ∷ lines) asked line each = absurd (omega (arith, each))
-event_lines-asks (item ∷ items) [] asked line each = absurd (omega (arith, each))
-event_lines-asks (Tells e ∷ items) (l ∷ lines) asked line each =
-    ap (λ (ls : List ℕ). l ∷ ls) (event_lines-asks items lines asked line (omega (arith, each)))
-event_lines-asks (Asks a ∷ items) (l ∷ lines) asked line each = event_lines-asks items lines asked line (omega (arith, each))
-event_lines-asks (Names c ∷ items) (l ∷ lines) asked line each = event_lines-asks items lines asked line (omega (arith, each))
+lines_where-same : (is_so : LogItem → Bool) (items : List LogItem) (lines : List ℕ) (item : LogItem) (line : ℕ) → is_so item ≡ false → length lines ≡ length items
+    → lines_where is_so (items ++ item ∷ []) (lines ++ line ∷ []) ≡ lines_where is_so items lines
+lines_where-same is_so items lines item line other each =
+    lines_where-more is_so items lines item line each
+    ∙ ap (λ (test : Bool). lines_where is_so items lines ++ cond test (line ∷ []) []) other ∙ append-nil (lines_where is_so items lines)
+
+-- what was left out is as many records as say so
+length-lines_where : (is_so : LogItem → Bool) (items : List LogItem) (lines : List ℕ) → length lines ≡ length items
+    → length (lines_where is_so items lines) ≡ length (filter is_so items)
+length-lines_where is_so [] lines each = refl
+length-lines_where is_so (item ∷ items) [] each = absurd (omega (arith, each))
+length-lines_where is_so (item ∷ items) (line ∷ lines) each = by (is_so item) (length-lines_where is_so items lines (omega (arith, each))) where
+  by : (here : Bool) → length (lines_where is_so items lines) ≡ length (filter is_so items)
+      → length (cond here (line ∷ lines_where is_so items lines) (lines_where is_so items lines)) ≡ length (cond here (item ∷ filter is_so items) (filter is_so items))
+  by true rest = ap suc rest
+  by false rest = rest
+
+count_on : (lines : List ℕ) → skipped_count (skipped_on lines) ≡ length lines
+count_on [] = refl
+count_on (line ∷ lines) = omega arith
+
+pub count_in : (items : List LogItem) (lines : List ℕ) → length lines ≡ length items → skipped_count (skipped_in items lines) ≡ skip_count items
+count_in items lines each = count_on (lines_where is_skip items lines) ∙ length-lines_where is_skip items lines each
+
+-- one more line of a record that was left out
+pub skipped_on-push : (lines : List ℕ) (line : ℕ) → skipped_on (lines ++ line ∷ []) ≡ Some (with_skip (skipped_on lines) line)
+skipped_on-push [] line = refl
+skipped_on-push (l ∷ lines) line =
+    ap (λ (n : ℕ). (let o : Option Skipped = Some (record { count = n + 1; line = l }) in o)) (length-append lines (line ∷ []))
 
 pub last_of-push : (before : ℕ) (lines : List ℕ) (line : ℕ) → last_of before (lines ++ line ∷ []) ≡ line
 last_of-push before [] line = refl
@@ -134,24 +155,20 @@ one_each-more items lines item line each =
     length-append lines (line ∷ []) ∙ ap (λ n. n + 1) each ∙ sym (length-append items (item ∷ []))
 
 -- only the first record names columns
-pub columns_after-tells : (items : List LogItem) (event : NamedEvent) → columns_after (items ++ Tells event ∷ []) ≡ columns_after items
-columns_after-tells [] event = refl
-columns_after-tells (Tells e ∷ items) event = refl
-columns_after-tells (Asks a ∷ items) event = refl
-columns_after-tells (Names c ∷ items) event = refl
+pub header_columns-more : (items : List LogItem) (item : LogItem) → header_columns (item ∷ []) ≡ None → header_columns (items ++ item ∷ []) ≡ header_columns items
+header_columns-more [] item none = none
+header_columns-more (Tells e ∷ items) item none = refl
+header_columns-more (Asks a ∷ items) item none = refl
+header_columns-more (Names c ∷ items) item none = refl
+header_columns-more (Skips ∷ items) item none = refl
 
-pub columns_after-asks : (items : List LogItem) (asked : Asked) → columns_after (items ++ Asks asked ∷ []) ≡ columns_after items
-columns_after-asks [] asked = refl
-columns_after-asks (Tells e ∷ items) asked = refl
-columns_after-asks (Asks a ∷ items) asked = refl
-columns_after-asks (Names c ∷ items) asked = refl
-
--- no record tells of more than one event, or asks more than one question, or does both
-pub length-items : (items : List LogItem) → length (events_in items) + length (questions_in items) ≤ length items
+-- no record tells of more than one event, asks more than one question or says more than once that it was left out, or does two of these
+pub length-items : (items : List LogItem) → length (events_in items) + length (questions_in items) + skip_count items ≤ length items
 length-items [] = omega arith
 length-items (Tells event ∷ items) = let rest = length-items items in omega arith
 length-items (Asks asked ∷ items) = let rest = length-items items in omega arith
 length-items (Names columns ∷ items) = let rest = length-items items in omega arith
+length-items (Skips ∷ items) = let rest = length-items items in omega arith
 
 pub length-log : (events : List NamedEvent) (text : LogText) → IsRawLogOf events text → length text.log.events ≡ length events
 length-log events text h =
@@ -161,6 +178,7 @@ pub record_count-items : (items : List LogItem) (text : LogText) → IsRawTextOf
 record_count-items items text h =
     let events = length-log (events_in items) text h.log in
     let questions : length text.questions.items ≡ length (questions_in items) = sym (length-map text.questions.items plain_asked) ∙ ap length h.questions in
+    let skipped = h.skipped in
     let all = length-items items in
     omega arith
 
@@ -205,6 +223,7 @@ pub record Continues (old new : PartialLog) (r : NamedEvent) (e : LogEvent) : Ty
   pub line : new.line ≡ e.line
   pub next : IsNextLine old e.line
   pub columns : new.columns ≡ old.columns
+  pub skipped : new.skipped ≡ old.skipped
 
 module _ (items : List LogItem) (lines : List ℕ) (old new : PartialLog) (r : NamedEvent) (e : LogEvent) (h : IsPartialLog items lines old) (n : Continues old new r e) where
   abbrev events : List NamedEvent
@@ -275,7 +294,10 @@ module _ (items : List LogItem) (lines : List ℕ) (old new : PartialLog) (r : N
   lines_told : map (λ e. e.line) new.log.events ≡ event_lines (items ++ Tells r ∷ []) (lines ++ e.line ∷ [])
   lines_told =
       ap (map (λ (e : LogEvent). e.line)) n.pushed ∙ map_push (λ (e : LogEvent). e.line) log_events e
-      ∙ ap (λ (before : List ℕ). before ++ e.line ∷ []) h.on_lines ∙ sym (event_lines-tells items lines r e.line h.one_each)
+      ∙ ap (λ (before : List ℕ). before ++ e.line ∷ []) h.on_lines ∙ sym (lines_where-more is_telling items lines (Tells r) e.line h.one_each)
+
+  skipped_told : new.skipped ≡ skipped_in (items ++ Tells r ∷ []) (lines ++ e.line ∷ [])
+  skipped_told = n.skipped ∙ h.skipped ∙ ap skipped_on (sym (lines_where-same is_skip items lines (Tells r) e.line refl h.one_each))
 
   pub is_reading-more : IsPartialLog (items ++ Tells r ∷ []) (lines ++ e.line ∷ []) new
   is_reading-more =
@@ -285,42 +307,46 @@ module _ (items : List LogItem) (lines : List ℕ) (old new : PartialLog) (r : N
       let low = h.low in
       let before = h.last in
       let size = length-append items (Tells r ∷ []) in
+      let each = one_each-more items lines (Tells r) e.line h.one_each in
       record {
         held = record {
           log = subst (λ (events : List NamedEvent). IsRawLogOf events (text_of new)) (sym (events_in-tells items r)) log-more;
           questions = rw n.questions (h.held.questions ∙ sym (questions_in-tells items r));
+          skipped = ap skipped_count skipped_told ∙ count_in (items ++ Tells r ∷ []) (lines ++ e.line ∷ []) each;
         };
         messages = messages_now ∙ ap message_names (sym (events_in-tells items r));
         on_lines = lines_told;
-        one_each = one_each-more items lines (Tells r) e.line h.one_each;
+        one_each = each;
         ends = n.line ∙ sym (last_of-push 0 lines e.line);
         before = all_of (λ d. d.line ≤ new.line)
             (All-weaker (λ d. d.line ≤ old.line) (λ d. d.line ≤ new.line) (λ d at. omega arith) log_events h.before) (omega arith);
         low = omega arith;
-        columns = n.columns ∙ h.columns ∙ sym (columns_after-tells items r);
+        columns = n.columns ∙ h.columns ∙ sym (header_columns-more items (Tells r) refl);
         last = omega arith;
         senders = λ place.
             asides-more (λ r. r.from) events r old.senders new.senders h.senders
             (subst (λ (place : ℕ). GivesLabel old.senders new.senders place r.from) (length-log events (text_of old) log) n.senders) place
             ∙ ap (λ (events : List NamedEvent). sender_of_event events place) (sym (events_in-tells items r));
+        skipped = skipped_told;
       }
 
--- one more question, and nothing else
-pub record AddsQuestion (old new : PartialLog) (question : LogQuestion) : Type 0 where
+-- one more record that tells of no event and names no columns, with what it asks or that it was left out, and nothing else
+pub record AddsAside (items : List LogItem) (lines : List ℕ) (old new : PartialLog) (item : LogItem) : Type 0 where
   pub log : new.log ≡ old.log
   pub nodes : new.nodes ≡ old.nodes
   pub messages : new.messages ≡ old.messages
   pub labels : new.labels ≡ old.labels
   pub senders : new.senders ≡ old.senders
-  pub questions : new.questions.items ≡ old.questions.items ++ question ∷ []
+  pub questions : map plain_asked new.questions.items ≡ questions_in (items ++ item ∷ [])
   pub next : IsNextLine old new.line
   pub columns : new.columns ≡ old.columns
+  pub skipped : new.skipped ≡ skipped_in (items ++ item ∷ []) (lines ++ new.line ∷ [])
+  pub no_event : events_in (item ∷ []) ≡ []
+  pub no_columns : header_columns (item ∷ []) ≡ None
+  pub tells_nothing : is_telling item ≡ false
 
-module _ (items : List LogItem) (lines : List ℕ) (old new : PartialLog) (question : LogQuestion) (h : IsPartialLog items lines old) (n : AddsQuestion old new question) where
-  abbrev asked : Asked
-  asked = plain_asked question
-
-  -- the log with other questions
+module _ (items : List LogItem) (lines : List ℕ) (old new : PartialLog) (item : LogItem) (h : IsPartialLog items lines old) (n : AddsAside items lines old new item) where
+  -- the log with other questions, and other records left out
   abbrev other : LogText
   other = record {
     log = old.log;
@@ -328,11 +354,19 @@ module _ (items : List LogItem) (lines : List ℕ) (old new : PartialLog) (quest
     messages = length old.messages;
     labels = old.labels;
     questions = new.questions;
+    skipped = new.skipped;
   }
 
   is_other : text_of new ≡ other
   is_other =
-      λ i. record { log = n.log i; nodes = n.nodes i; messages = length (n.messages i); labels = n.labels i; questions = new.questions }
+      λ i. record {
+        log = n.log i;
+        nodes = n.nodes i;
+        messages = length (n.messages i);
+        labels = n.labels i;
+        questions = new.questions;
+        skipped = new.skipped;
+      }
 
   log-other : IsRawLogOf (events_in items) other
   log-other = record {
@@ -346,44 +380,86 @@ module _ (items : List LogItem) (lines : List ℕ) (old new : PartialLog) (quest
     lines_rise = h.held.log.lines_rise;
   }
 
-  asked_all : map plain_asked new.questions.items ≡ questions_in (items ++ Asks asked ∷ [])
-  asked_all =
-      ap (map plain_asked) n.questions ∙ map_push plain_asked old.questions.items question
-      ∙ ap (λ (qs : List Asked). qs ++ asked ∷ []) h.held.questions ∙ sym (questions_in-asks items asked)
+  same_events : events_in (items ++ item ∷ []) ≡ events_in items
+  same_events =
+      filter_map-append if_event items (item ∷ []) ∙ ap (λ (es : List NamedEvent). events_in items ++ es) n.no_event ∙ append-nil (events_in items)
 
   before_all : All (λ e. e.line ≤ new.line) other.log.events
   before_all =
       let rises = n.next.rises in
       All-weaker (λ e. e.line ≤ old.line) (λ e. e.line ≤ new.line) (λ e at. omega arith) old.log.events h.before
 
-  lines_kept : map (λ e. e.line) other.log.events ≡ event_lines (items ++ Asks asked ∷ []) (lines ++ new.line ∷ [])
-  lines_kept = h.on_lines ∙ sym (event_lines-asks items lines asked new.line h.one_each)
+  lines_kept : map (λ e. e.line) other.log.events ≡ event_lines (items ++ item ∷ []) (lines ++ new.line ∷ [])
+  lines_kept = h.on_lines ∙ sym (lines_where-same is_telling items lines item new.line n.tells_nothing h.one_each)
 
-  pub is_asking-more : IsPartialLog (items ++ Asks asked ∷ []) (lines ++ new.line ∷ []) new
-  is_asking-more =
+  pub is_aside-more : IsPartialLog (items ++ item ∷ []) (lines ++ new.line ∷ []) new
+  is_aside-more =
       let rises = n.next.rises in
       let last = n.next.last in
       let low = h.low in
       let before = h.last in
-      let size = length-append items (Asks asked ∷ []) in
+      let size = length-append items (item ∷ []) in
+      let each = one_each-more items lines item new.line h.one_each in
       record {
         held = record {
-          log = subst (λ (text : LogText). IsRawLogOf (events_in (items ++ Asks asked ∷ [])) text) (sym is_other)
-              (subst (λ (events : List NamedEvent). IsRawLogOf events other) (sym (events_in-asks items asked)) log-other);
-          questions = asked_all;
+          log = subst (λ (text : LogText). IsRawLogOf (events_in (items ++ item ∷ [])) text) (sym is_other)
+              (subst (λ (events : List NamedEvent). IsRawLogOf events other) (sym same_events) log-other);
+          questions = n.questions;
+          skipped = ap skipped_count n.skipped ∙ count_in (items ++ item ∷ []) (lines ++ new.line ∷ []) each;
         };
-        messages = n.messages ∙ h.messages ∙ ap message_names (sym (events_in-asks items asked));
-        on_lines = subst (λ (text : LogText). map (λ e. e.line) text.log.events ≡ event_lines (items ++ Asks asked ∷ []) (lines ++ new.line ∷ [])) (sym is_other) lines_kept;
-        one_each = one_each-more items lines (Asks asked) new.line h.one_each;
+        messages = n.messages ∙ h.messages ∙ ap message_names (sym same_events);
+        on_lines = subst (λ (text : LogText). map (λ e. e.line) text.log.events ≡ event_lines (items ++ item ∷ []) (lines ++ new.line ∷ [])) (sym is_other) lines_kept;
+        one_each = each;
         ends = sym (last_of-push 0 lines new.line);
         before = subst (λ (text : LogText). All (λ e. e.line ≤ new.line) text.log.events) (sym is_other) before_all;
         low = omega arith;
-        columns = n.columns ∙ h.columns ∙ sym (columns_after-asks items asked);
+        columns = n.columns ∙ h.columns ∙ sym (header_columns-more items item n.no_columns);
         last = omega arith;
         senders = λ place.
             ap (λ senders. label_at senders place) n.senders ∙ h.senders place
-            ∙ ap (λ (events : List NamedEvent). sender_of_event events place) (sym (events_in-asks items asked));
+            ∙ ap (λ (events : List NamedEvent). sender_of_event events place) (sym same_events);
+        skipped = n.skipped;
       }
+
+-- one more question
+module _ (items : List LogItem) (lines : List ℕ) (old new : PartialLog) (question : LogQuestion) (h : IsPartialLog items lines old) where
+  pub asked_all : new.questions.items ≡ old.questions.items ++ question ∷ []
+      → map plain_asked new.questions.items ≡ questions_in (items ++ Asks (plain_asked question) ∷ [])
+  asked_all pushed =
+      ap (map plain_asked) pushed ∙ map_push plain_asked old.questions.items question
+      ∙ ap (λ (qs : List Asked). qs ++ plain_asked question ∷ []) h.held.questions ∙ sym (questions_in-asks items (plain_asked question))
+
+  pub skipped_kept : (line : ℕ) → old.skipped ≡ skipped_in (items ++ Asks (plain_asked question) ∷ []) (lines ++ line ∷ [])
+  skipped_kept line = h.skipped ∙ ap skipped_on (sym (lines_where-same is_skip items lines (Asks (plain_asked question)) line refl h.one_each))
+
+-- one more record that was left out
+module _ (items : List LogItem) (lines : List ℕ) (old : PartialLog) (line : ℕ) (h : IsPartialLog items lines old) (next : IsNextLine old line) where
+  abbrev more : PartialLog
+  more = record old { skipped = Some (with_skip old.skipped line); line = line }
+
+  skipped_all : more.skipped ≡ skipped_in (items ++ Skips ∷ []) (lines ++ line ∷ [])
+  skipped_all =
+      ap (λ (o : Option Skipped). (let m : Option Skipped = Some (with_skip o line) in m)) h.skipped ∙ sym (skipped_on-push (lines_where is_skip items lines) line)
+      ∙ ap skipped_on (sym (lines_where-more is_skip items lines Skips line h.one_each))
+
+  asked_as_before : map plain_asked old.questions.items ≡ questions_in (items ++ Skips ∷ [])
+  asked_as_before = h.held.questions ∙ sym (filter_map-append if_asked items (Skips ∷ []) ∙ append-nil (questions_in items))
+
+  pub is_skipping-more : IsPartialLog (items ++ Skips ∷ []) (lines ++ line ∷ []) more
+  is_skipping-more = is_aside-more items lines old more Skips h record {
+    log = refl;
+    nodes = refl;
+    messages = refl;
+    labels = refl;
+    senders = refl;
+    questions = asked_as_before;
+    next = next;
+    columns = refl;
+    skipped = skipped_all;
+    no_event = refl;
+    no_columns = refl;
+    tells_nothing = refl;
+  }
 
 -- a header, and nothing else
 module _ (lines : List ℕ) (old : PartialLog) (columns : Columns) (line : ℕ) (h : IsPartialLog [] lines old) (next : IsNextLine old line) where
@@ -395,6 +471,10 @@ module _ (lines : List ℕ) (old : PartialLog) (columns : Columns) (line : ℕ) 
   headed_lines [] none on_lines = on_lines
   headed_lines (l ∷ lines) none on_lines = absurd (omega (arith, none))
 
+  headed_skipped : (lines : List ℕ) → length lines ≡ 0 → old.skipped ≡ skipped_in [] lines → old.skipped ≡ skipped_in (Names columns ∷ []) (lines ++ line ∷ [])
+  headed_skipped [] none skipped = skipped
+  headed_skipped (l ∷ lines) none skipped = absurd (omega (arith, none))
+
   pub is_headed : IsPartialLog (Names columns ∷ []) (lines ++ line ∷ []) headed
   is_headed =
       let rises = next.rises in
@@ -402,7 +482,7 @@ module _ (lines : List ℕ) (old : PartialLog) (columns : Columns) (line : ℕ) 
       let before = h.last in
       let none = h.one_each in
       record {
-        held = record { log = h.held.log; questions = h.held.questions };
+        held = record { log = h.held.log; questions = h.held.questions; skipped = h.held.skipped };
         messages = h.messages;
         on_lines = headed_lines lines h.one_each h.on_lines;
         one_each = length-append lines (line ∷ []) ∙ ap (λ n. n + 1) none;
@@ -412,6 +492,7 @@ module _ (lines : List ℕ) (old : PartialLog) (columns : Columns) (line : ℕ) 
         columns = refl;
         last = omega arith;
         senders = h.senders;
+        skipped = headed_skipped lines h.one_each h.skipped;
       }
 
 -- named events are numbered

@@ -1,20 +1,24 @@
 -- Logs without a header.
-use Rattle.std.proofs.Common.{◌≡◌, ◌∙◌, Bool, true, false, List, [], ◌∷◌, ◌++◌, Option, Some, None, Ok, Err, Result, ap, cond, map, refl, subst, sym}
-use Rattle.std.specs.Prelude.{codes}
+use Rattle.std.proofs.Common.{◌≡◌, ◌∙◌, ℕ, Bool, true, false, List, [], ◌∷◌, ◌++◌, Option, Some, None, Ok, Err, Result, ap, cond, map, refl, subst, sym}
+use Rattle.std.specs.Prelude.{◌==◌, bytes_eq, codes, length}
 use Rattle.std.specs.Cmp.Lexicographic.{bytes_decides}
 use Rattle.hlc_csv.specs.Rows.{Fields, field_of}
-use Rattle.hlc_log_text.specs.Columns.{arranged_by, begins_as_header, carried_by, columns_of, from_by}
-use Rattle.hlc_log_text.specs.LogItem.{Asks, LogItem, Names, Tells, asks, carry, columns_after, header_item, is_header, item_after, item_after_word, item_from, item_of, tells}
+use Rattle.hlc_log_text.specs.Columns.{begins_as_header, columns_by, columns_of}
+use Rattle.hlc_log_text.specs.LogItem.{Asks, LogItem, Names, Skips, Tells, asks, begins_as_skip, columns_after, header_columns, header_item, is_header, item_after, item_after_word, item_in, item_of, other_item, skip_item, tells, unless_missing}
 use Rattle.hlc_log_text.specs.LogWord.{log_word_of}
+use Rattle.hlc_log_text.specs.Missing.{missing_by}
 use Rattle.hlc_log_text.specs.NamedEvent.{NamedEvent, named_event_of}
 use Rattle.hlc_log_text.specs.Question.{Asked, asked_after_word, asked_of, question_word_of}
 use Rattle.hlc_log_text.specs.ReadLog.{SayAfter}
 use Rattle.hlc_log_text.specs.declared.bad_log.BadLog.{BadLog}
+use Rattle.hlc_log_text.specs.declared.bad_log.BadLog.TheVariants as bad
 use Rattle.hlc_log_text.specs.declared.columns.Columns.{Columns}
 use Rattle.hlc_log_text.specs.declared.log_word.LogWord.{LogWord}
 use Rattle.hlc_log_text.specs.declared.question_word.QuestionWord.{QuestionWord}
 use Rattle.hlc_log_text.specs.declared.log_rules.LogRules.{LogRules}
-use Rattle.hlc_log_text.proofs.LogFacts.{columns_after-asks, columns_after-tells}
+use Rattle.hlc_log_text.specs.declared.record_syntax.RecordSyntax.{RecordSyntax}
+use Rattle.hlc_log_text.specs.declared.record_syntax.RecordSyntax.TheVariants.{Csv, JsonLines}
+use Rattle.hlc_log_text.proofs.LogFacts.{header_columns-more}
 
 -- what is told or asked names no columns
 tells_names : (r : Result NamedEvent BadLog) (columns : Columns) → tells r ≡ Ok (Names columns) → ⊥
@@ -25,8 +29,18 @@ asks_names : (r : Result Asked BadLog) (columns : Columns) → asks r ≡ Ok (Na
 asks_names (Ok asked) columns is = cc
 asks_names (Err why) columns is = cc
 
+other_names : (fields : Fields) (columns : Columns) → other_item fields ≡ Ok (Names columns) → ⊥
+other_names fields columns is = by_word (begins_as_skip fields) is where
+  by_count : (test : Bool) → (let r : Result LogItem BadLog = cond test (Ok Skips) (Err bad.Fields) in r) ≡ Ok (Names columns) → ⊥
+  by_count true is = cc
+  by_count false is = cc
+
+  by_word : (test : Bool) → cond test (skip_item fields) (asks (asked_of fields)) ≡ Ok (Names columns) → ⊥
+  by_word true is = by_count (length fields == 1) is
+  by_word false is = asks_names (asked_of fields) columns is
+
 placed_names : (rules : LogRules) (w : Option LogWord) (fields : Fields) (columns : Columns) → item_after_word rules None w fields ≡ Ok (Names columns) → ⊥
-placed_names rules None fields columns is = asks_names (asked_of fields) columns is
+placed_names rules None fields columns is = other_names fields columns is
 placed_names rules (Some w) fields columns is = tells_names (named_event_of rules w None fields) columns is
 
 -- a record that says something by the places of its fields is no header
@@ -36,33 +50,41 @@ no_header rules fields item is = by_test (begins_as_header fields) refl where
   by_test false has = refl
   by_test true has =
       let kind : field_of fields 0 ≡ codes "kind" = (bytes_decides (field_of fields 0) (codes "kind")).0 has in
-      let asked : asks (asked_of fields) ≡ Ok item = subst (λ (w : Option LogWord). item_after_word rules None w fields ≡ Ok item) (ap log_word_of kind) is in
+      let other : other_item fields ≡ Ok item = subst (λ (w : Option LogWord). item_after_word rules None w fields ≡ Ok item) (ap log_word_of kind) is in
+      let no_skip : begins_as_skip fields ≡ false = ap (λ (field : List ℕ). bytes_eq field (codes "skipped")) kind in
+      let asked : asks (asked_of fields) ≡ Ok item =
+      subst (λ (test : Bool). cond test (skip_item fields) (asks (asked_of fields)) ≡ Ok item) no_skip other in
       let none : asks (asked_after_word None fields) ≡ Ok item =
       subst (λ (w : Option QuestionWord). asks (asked_after_word w fields) ≡ Ok item) (ap question_word_of kind) asked in
       absurd (cc)
 
--- so what it says doesn't depend on those before it, if none of them is a header
-placed_after : (rules : LogRules) (before : List LogItem) (fields : Fields) (item : LogItem) → columns_after before ≡ None
+-- so what it says doesn't depend on those before it, if there are no columns
+placed_after : (rules : LogRules) (before : List LogItem) (fields : Fields) (item : LogItem) → columns_after rules before ≡ None
     → item_of rules fields ≡ Ok item → item_after rules before fields ≡ Ok item
-placed_after rules before fields item none is =
-    ap (λ (test : Bool). cond test (header_item rules.form (columns_of fields)) (by_columns (columns_after before))) (plain before)
-    ∙ ap by_columns none ∙ is where
-      by_columns : Option Columns → Result LogItem BadLog
-      by_columns columns =
-          carry (carried_by rules.form columns fields) (item_from rules (from_by columns fields) (arranged_by rules.form columns fields))
+placed_after rules before fields item none is = by_syntax rules.syntax none where
+  plain : (before : List LogItem) → is_header Csv before fields ≡ false
+  plain [] = no_header rules fields item is
+  plain (x ∷ before) = refl
 
-      plain : (before : List LogItem) → is_header before fields ≡ false
-      plain [] = no_header rules fields item is
-      plain (x ∷ before) = refl
+  by_syntax : (syntax : RecordSyntax) → columns_by syntax (header_columns before) ≡ None
+      → cond (is_header syntax before fields) (header_item rules.form (columns_of fields))
+      (unless_missing (missing_by syntax rules.form fields) (item_in rules (columns_by syntax (header_columns before)) fields)) ≡ Ok item
+  by_syntax JsonLines none = absurd (cc none)
+  by_syntax Csv none =
+      ap (λ (test : Bool). cond test (header_item rules.form (columns_of fields)) (item_in rules (header_columns before) fields)) (plain before)
+      ∙ ap (λ (columns : Option Columns). item_in rules columns fields) none ∙ is
 
-none_after : (rules : LogRules) (before : List LogItem) (fields : Fields) (item : LogItem) → columns_after before ≡ None
-    → item_of rules fields ≡ Ok item → columns_after (before ++ item ∷ []) ≡ None
-none_after rules before fields (Tells event) none is = columns_after-tells before event ∙ none
-none_after rules before fields (Asks asked) none is = columns_after-asks before asked ∙ none
-none_after rules before fields (Names columns) none is = absurd (placed_names rules (log_word_of (field_of fields 0)) fields columns is)
+none_after : (rules : LogRules) (before : List LogItem) (fields : Fields) (item : LogItem) → columns_after rules before ≡ None
+    → item_of rules fields ≡ Ok item → columns_after rules (before ++ item ∷ []) ≡ None
+none_after rules before fields item none is = ap (columns_by rules.syntax) (header_columns-more before item (no_columns item is)) ∙ none where
+  no_columns : (item : LogItem) → item_of rules fields ≡ Ok item → header_columns (item ∷ []) ≡ None
+  no_columns (Tells event) is = refl
+  no_columns (Asks asked) is = refl
+  no_columns Skips is = refl
+  no_columns (Names columns) is = absurd (placed_names rules (log_word_of (field_of fields 0)) fields columns is)
 
 -- records that say things by the places of their fields say them as records of a log without a header
-pub placed_say : (rules : LogRules) (before : List LogItem) (records : List Fields) (items : List LogItem) → columns_after before ≡ None
+pub placed_say : (rules : LogRules) (before : List LogItem) (records : List Fields) (items : List LogItem) → columns_after rules before ≡ None
     → map (item_of rules) records ≡ map (λ (item : LogItem). (let r : Result LogItem BadLog = Ok item in r)) items → SayAfter rules before records items
 placed_say rules before [] [] none same = tt
 placed_say rules before [] (item ∷ items) none same = absurd (cc)

@@ -17,8 +17,10 @@ use Rattle.hlc_log_text.specs.declared.bad_log.BadLine.{BadLine}
 use Rattle.hlc_log_text.specs.declared.bad_log.BadLog.{BadLog}
 use Rattle.hlc_log_text.specs.declared.partial_log.PartialLog.{PartialLog}
 use Rattle.hlc_log_text.specs.LogItem.{LogItem, event_lines, events_in, item_after}
+use Rattle.hlc_log_text.specs.Skipped.{skipped_in}
+use Rattle.hlc_log_text.specs.declared.skipped.Skipped.{Skipped}
 use Rattle.hlc_log_text.specs.LogText.{IsRawLogOf, node_names}
-use Rattle.hlc_log_text.specs.ReadLog.{AreOnLines, HasTooMany, IsBadNext, IsOnLine, IsReadInto, IsReadUpToBad, SayAfter, SayItems}
+use Rattle.hlc_log_text.specs.ReadLog.{AreOnLines, AreSkippedOnLines, HasTooMany, IsBadNext, IsOnLine, IsReadInto, IsReadUpToBad, SayAfter, SayItems}
 use Rattle.hlc_log_text.specs.PartialLog.{HasPlace, IsBadFound, IsPartialLog, Takes, last_of, text_of, told_line}
 use Rattle.hlc_log_text.proofs.LogFacts.{record_count-items}
 
@@ -88,6 +90,11 @@ are_on_lines None items counted events h on_lines = tt
 are_on_lines (Some text) items counted events h on_lines =
     on_lines ∙ ap (λ (lines : List ℕ). event_lines items (rising 0 lines)) (sym h)
 
+are_skipped_on_lines : (bytes : Option (List ℕ)) (items : List LogItem) (counted : List ℕ) (skipped : Option Skipped) → BeginOnLines bytes counted
+    → skipped ≡ skipped_in items (rising 0 counted) → AreSkippedOnLines bytes items skipped
+are_skipped_on_lines None items counted skipped h is = tt
+are_skipped_on_lines (Some text) items counted skipped h is = is ∙ ap (λ (lines : List ℕ). skipped_in items (rising 0 lines)) (sym h)
+
 -- the records that end open are the first ones
 pub open_begins : (bytes : Option (List ℕ)) (records : List Fields) → EndOpen bytes records → BeginsWith bytes records
 open_begins None records h = tt
@@ -145,6 +152,7 @@ module _ {R : Type 0} (rules : LogRules) (rem : R → Option (List ℕ)) (initia
           make = h.make;
           held = h.reading;
           on_lines = are_on_lines bytes h.items h.counted reading.log.events all.on_lines h.reading.on_lines;
+          skipped = are_skipped_on_lines bytes h.items h.counted reading.skipped all.on_lines h.reading.skipped;
         }
 
     module _ (next : RecordReader R) (fields : Fields) (found : FoundRecord) (read : ReadsRecord rem input next fields (Some found)) where

@@ -1,6 +1,6 @@
 -- The readings of a log's events are such as its records may write, and the stamps of restarts leave room above them.
-use Rattle.std.proofs.Common.{◌≡◌, ◌≤◌, ℕ, Bool, true, false, List, [], ◌∷◌, ◌++◌, Option, Some, None, Ok, Err, Result, ap, arith, cond, length, map, refl, subst, sym}
-use Rattle.std.specs.Prelude.{◌==◌, ◌&&◌, All, IfErr, IfOk, IfSome, MatchResult, is_some, nat_le, nat_lt, not, option_map}
+use Rattle.std.proofs.Common.{◌≡◌, ◌≤◌, ◌*◌, ◌/◌, ℕ, Bool, true, false, List, [], ◌∷◌, ◌++◌, Option, Some, None, Ok, Err, Result, ap, arith, cond, length, map, refl, subst, sym}
+use Rattle.std.specs.Prelude.{◌==◌, ◌&&◌, All, IfErr, IfOk, IfSome, MatchResult, is_some, max, nat_le, nat_lt, not, option_map}
 use Rattle.std.specs.Option.{option_and_then}
 use Rattle.std.proofs.lemmas.Bool.{and_parts, leb-true, ltb-true}
 use Rattle.std.proofs.lemmas.List.Elements.{All-cons, All-head, All-map, All-nil, All-tail, All-weaker}
@@ -9,9 +9,11 @@ use Rattle.hlc_stamp.specs.declared.stamp.Stamp.{Stamp}
 use Rattle.hlc_stamp.specs.Order.{Pair}
 use Rattle.hlc_csv.specs.Number.{number_of}
 use Rattle.hlc_csv.specs.Rows.{Fields, field_of}
-use Rattle.hlc_log_text.specs.StampForms.{fields_stamp}
+use Rattle.hlc_log_text.specs.StampForms.{fields_stamp, packed_bits}
+use Rattle.hlc_log_text.specs.Units.{in_unit_of_l, per_second}
 use Rattle.hlc_log_text.specs.declared.log_rules.LogRules.{LogRules}
 use Rattle.hlc_log_text.specs.declared.stamp_form.StampForm.{StampForm}
+use Rattle.hlc_log_text.specs.declared.units.Units.{Units}
 use Rattle.hlc_log.specs.declared.log_event.LogEvent.{LogEvent}
 use Rattle.hlc_log.specs.declared.log_event.LogKind.{LogKind}
 use Rattle.hlc_log.specs.declared.log_event.LogKind.TheVariants.{Local, Outside, Receive, Restart, Send}
@@ -23,11 +25,13 @@ use Rattle.hlc_log_text.specs.declared.bad_log.BadLog.{BadLog}
 use Rattle.hlc_log_text.specs.declared.bad_log.BadLog.TheVariants as bad
 use Rattle.hlc_log_text.specs.declared.fault.LogTextFault.{LogTextFault}
 use Rattle.hlc_log_text.specs.declared.log_text.LogText.{LogText}
+use Rattle.hlc_log_text.specs.declared.log_column.LogColumn.{LogColumn}
 use Rattle.hlc_log_text.specs.declared.log_word.LogWord.{LogWord}
 use Rattle.hlc_log_text.specs.declared.log_word.LogWord.TheVariants as word
 use Rattle.hlc_log_text.specs.declared.record_head.RecordHead.{RecordHead}
-use Rattle.hlc_log_text.specs.LogItem.{Asks, LogItem, Names, Tells, asks, carry, columns_after, events_in, header_item, is_header, item_after, item_after_word, item_from, tells}
+use Rattle.hlc_log_text.specs.LogItem.{Asks, LogItem, Names, Skips, Tells, asks, begins_as_skip, carry, columns_after, events_in, header_item, is_header, item_after, item_after_word, item_from, item_in, other_item, skip_item, tells, unless_missing}
 use Rattle.hlc_log_text.specs.LogText.{apart_count, kind_word, message_names, senders_of, unnamed_in, with_names}
+use Rattle.hlc_log_text.specs.Missing.{missing_by}
 use Rattle.hlc_log_text.specs.LogWord.{has_fields_of, log_word_of}
 use Rattle.hlc_log_text.specs.NamedEvent.{NamedEvent, assumed_reading, carrying, has_good_names, head_by, head_from, head_of, head_or_name, head_with, if_reading, label_of, message_place, named_event_from, named_event_of, reading_of, reading_with, restart_head, stamp_or_zero, stamp_told, told_by, tolerated, without_asides}
 use Rattle.hlc_log_text.specs.Question.{Asked, asked_of}
@@ -39,16 +43,29 @@ use Rattle.hlc_log_text.proofs.LogFacts.{numbered_of}
 abbrev IsReading : ℕ → Type 0
 IsReading n = (1 ≤ n) × (n ≤ MAX_READING)
 
-by_test : (n reading : ℕ) (test : Bool) → (nat_le 1 n && nat_le n MAX_READING) ≡ test → cond test (Some n) None ≡ Some reading → IsReading reading
-by_test n reading true passes is =
-    let parts = and_parts (nat_le 1 n) (nat_le n MAX_READING) passes in
-    let same : n ≡ reading = cc in
-    subst IsReading same (leb-true 1 n parts.0, leb-true n MAX_READING parts.1)
-by_test n reading false fails is = absurd (cc)
+-- a positive number is positive in the unit of l too
+one_at_least : (n : ℕ) → 1 ≤ max 1 n
+one_at_least n = omega arith
 
-number_is_reading : (number : Option ℕ) (reading : ℕ) → if_reading number ≡ Some reading → IsReading reading
-number_is_reading None reading is = absurd (cc)
-number_is_reading (Some n) reading is = by_test n reading (nat_le 1 n && nat_le n MAX_READING) refl is
+positive_in_l : (form : StampForm) (units : Option Units) (number : ℕ) → 1 ≤ number → 1 ≤ in_unit_of_l form units number
+positive_in_l form None number positive = positive
+positive_in_l form (Some units) number positive =
+    one_at_least (number * per_second (packed_bits form) units.l / per_second 0 units.reading)
+
+if_is_reading : (number n reading : ℕ) → (1 ≤ number → 1 ≤ n) → if_reading number n ≡ Some reading → IsReading reading
+if_is_reading number n reading positive is = by_test (nat_le 1 number && nat_le n MAX_READING) refl is where
+  by_test : (test : Bool) → (nat_le 1 number && nat_le n MAX_READING) ≡ test → cond test (Some n) None ≡ Some reading → IsReading reading
+  by_test true passes is =
+      let parts = and_parts (nat_le 1 number) (nat_le n MAX_READING) passes in
+      let same : n ≡ reading = cc in
+      subst IsReading same (positive (leb-true 1 number parts.0), leb-true n MAX_READING parts.1)
+  by_test false fails is = absurd (cc)
+
+number_is_reading : (rules : LogRules) (number : Option ℕ) (reading : ℕ)
+    → option_and_then (λ (number : ℕ). if_reading number (in_unit_of_l rules.form rules.units number)) number ≡ Some reading → IsReading reading
+number_is_reading rules None reading is = absurd (cc)
+number_is_reading rules (Some number) reading is =
+    if_is_reading number (in_unit_of_l rules.form rules.units number) reading (positive_in_l rules.form rules.units number) is
 
 assumed_is_reading : (stamp : Pair) → IsReading (assumed_reading stamp)
 assumed_is_reading stamp = (omega arith, omega arith)
@@ -56,19 +73,20 @@ assumed_is_reading stamp = (omega arith, omega arith)
 tolerated_is_reading : (tolerance reading l : ℕ) → IsReading reading → IsReading (tolerated tolerance reading l)
 tolerated_is_reading tolerance reading l is = let low = is.0 in let high = is.1 in (omega arith, omega arith)
 
-with_is_reading : (tolerance : ℕ) (field : List ℕ) (stamp : Pair) (reading : ℕ) → reading_with tolerance field stamp ≡ Some reading → IsReading reading
-with_is_reading tolerance field stamp reading is = by_length (length field == 0) is where
-  by_told : (told : Option ℕ) → reading_of field ≡ told
-      → (let o : Option ℕ = option_map (λ (n : ℕ). tolerated tolerance n stamp.l) told in o) ≡ Some reading → IsReading reading
+with_is_reading : (rules : LogRules) (field : List ℕ) (stamp : Pair) (reading : ℕ) → reading_with rules field stamp ≡ Some reading → IsReading reading
+with_is_reading rules field stamp reading is = by_length (length field == 0) is where
+  by_told : (told : Option ℕ) → reading_of rules field ≡ told
+      → (let o : Option ℕ = option_map (λ (n : ℕ). tolerated rules.tolerance n stamp.l) told in o) ≡ Some reading → IsReading reading
   by_told None same is = absurd (cc)
   by_told (Some n) same is =
-      let taken : tolerated tolerance n stamp.l ≡ reading = cc in
-      subst IsReading taken (tolerated_is_reading tolerance n stamp.l (number_is_reading (number_of field) n same))
+      let taken : tolerated rules.tolerance n stamp.l ≡ reading = cc in
+      subst IsReading taken (tolerated_is_reading rules.tolerance n stamp.l (number_is_reading rules (number_of field) n same))
 
   by_length : (test : Bool)
-      → cond test (Some (assumed_reading stamp)) (option_map (λ (n : ℕ). tolerated tolerance n stamp.l) (reading_of field)) ≡ Some reading → IsReading reading
+      → cond test (Some (assumed_reading stamp)) (option_map (λ (n : ℕ). tolerated rules.tolerance n stamp.l) (reading_of rules field)) ≡ Some reading
+      → IsReading reading
   by_length true is = let same : assumed_reading stamp ≡ reading = cc in subst IsReading same (assumed_is_reading stamp)
-  by_length false is = by_told (reading_of field) refl is
+  by_length false is = by_told (reading_of rules field) refl is
 
 -- the stamp of a restart leaves room above it, and is told
 HasRoom : LogWord → Stamp → (has_stamp : Bool) → Type 0
@@ -110,15 +128,15 @@ head_by_in_range word.Receive reading has_reading told head in_range is =
     let whole : RecordHead = told_head word.Receive reading has_reading told in
     let same : whole ≡ head = cc in subst IsHeadInRange same (in_range, tt)
 
-head_from_in_range : (tolerance : ℕ) (w : LogWord) (field : List ℕ) (told : Option (Option Stamp)) (head : RecordHead)
-    → head_from tolerance w field told ≡ Some head → IsHeadInRange head
-head_from_in_range tolerance w field None head is = absurd (cc)
-head_from_in_range tolerance w field (Some told) head is = by_reading (reading_with tolerance field (stamp_or_zero told)) refl is where
-  by_reading : (reading : Option ℕ) → reading_with tolerance field (stamp_or_zero told) ≡ reading
+head_from_in_range : (rules : LogRules) (w : LogWord) (field : List ℕ) (told : Option (Option Stamp)) (head : RecordHead)
+    → head_from rules w field told ≡ Some head → IsHeadInRange head
+head_from_in_range rules w field None head is = absurd (cc)
+head_from_in_range rules w field (Some told) head is = by_reading (reading_with rules field (stamp_or_zero told)) refl is where
+  by_reading : (reading : Option ℕ) → reading_with rules field (stamp_or_zero told) ≡ reading
       → option_and_then (λ (reading : ℕ). head_by w reading (not (length field == 0)) told) reading ≡ Some head → IsHeadInRange head
   by_reading None found is = absurd (cc)
   by_reading (Some reading) found is =
-      head_by_in_range w reading (not (length field == 0)) told head (with_is_reading tolerance field (stamp_or_zero told) reading found) is
+      head_by_in_range w reading (not (length field == 0)) told head (with_is_reading rules field (stamp_or_zero told) reading found) is
 
 head_is_there : (o : Option RecordHead) (good : Bool) (head : RecordHead) → head_or_name o good ≡ Ok head → o ≡ Some head
 head_is_there None good head is = absurd (cc)
@@ -133,7 +151,7 @@ head_is_in_range rules w from fields head is = by_count (has_fields_of rules.for
   by_count false is = absurd (cc)
   by_count true is =
       let there = head_is_there (head_with rules w fields) (has_good_names rules.form w from fields) head is in
-      head_from_in_range rules.tolerance w (field_of fields 2) (stamp_told rules.form w fields) head there
+      head_from_in_range rules w (field_of fields 2) (stamp_told rules.form w fields) head there
 
 event_head : (form : StampForm) (w : LogWord) (from : Option (List ℕ)) (fields : Fields) (head : Result RecordHead BadLog) (event : NamedEvent)
     → named_event_from form w from fields head ≡ Ok event → (head ≡ Ok event.head) × (event.carried ≡ None)
@@ -161,9 +179,19 @@ asks_no_event : (r : Result Asked BadLog) (event : NamedEvent) → asks r ≡ Ok
 asks_no_event (Err why) event is = cc
 asks_no_event (Ok asked) event is = cc
 
+other_no_event : (fields : Fields) (event : NamedEvent) → other_item fields ≡ Ok (Tells event) → ⊥
+other_no_event fields event is = by_word (begins_as_skip fields) is where
+  by_count : (test : Bool) → (let r : Result LogItem BadLog = cond test (Ok Skips) (Err bad.Fields) in r) ≡ Ok (Tells event) → ⊥
+  by_count true is = cc
+  by_count false is = cc
+
+  by_word : (test : Bool) → cond test (skip_item fields) (asks (asked_of fields)) ≡ Ok (Tells event) → ⊥
+  by_word true is = by_count (length fields == 1) is
+  by_word false is = asks_no_event (asked_of fields) event is
+
 event_in_range : (rules : LogRules) (from : Option (List ℕ)) (word : Option LogWord) (fields : Fields) (event : NamedEvent) → item_after_word rules from word fields ≡ Ok (Tells event)
     → IsPlainInRange event
-event_in_range rules from None fields event is = absurd (asks_no_event (asked_of fields) event is)
+event_in_range rules from None fields event is = absurd (other_no_event fields event is)
 event_in_range rules from (Some w) fields event is =
     let told = tells_event (named_event_of rules w from fields) event is in
     let made = event_head rules.form w from fields (head_of rules w from fields) event told in
@@ -212,6 +240,7 @@ carry_in_range (Some None) said small plain event is =
 carry_in_range (Some (Some stamp)) (Err why) small plain event is = absurd (cc)
 carry_in_range (Some (Some stamp)) (Ok (Asks asked)) small plain event is = absurd (cc)
 carry_in_range (Some (Some stamp)) (Ok (Names columns)) small plain event is = absurd (cc)
+carry_in_range (Some (Some stamp)) (Ok Skips) small plain event is = absurd (cc)
 carry_in_range (Some (Some stamp)) (Ok (Tells inner)) small plain event is =
     let same : carrying (Some stamp) inner ≡ event = cc in
     subst (λ (e : NamedEvent). IsHeadInRange e.head × IsSmallCarried e.carried) same ((plain inner refl).0, small)
@@ -226,14 +255,21 @@ header_no_event form columns event is = by_test (is_complete form columns) is wh
 after_in_range : (rules : LogRules) (before : List LogItem) (fields : Fields) (event : NamedEvent) → item_after rules before fields ≡ Ok (Tells event)
     → IsNamedInRange event
 after_in_range rules before fields event is =
-    by_header (is_header before fields) (from_by (columns_after before) fields) (arranged_by rules.form (columns_after before) fields)
-    (carried_by rules.form (columns_after before) fields)
-    (carried_by_small rules.form (columns_after before) fields) is where
-      by_header : (test : Bool) (from : Option (List ℕ)) (placed : Fields) (carried : Option (Option Pair)) → IsSmallTold carried
-          → cond test (header_item rules.form (columns_of fields)) (carry carried (item_from rules from placed)) ≡ Ok (Tells event) → IsNamedInRange event
-      by_header true from placed carried small is = absurd (header_no_event rules.form (columns_of fields) event is)
-      by_header false from placed carried small is =
-          carry_in_range carried (item_from rules from placed) small (event_in_range rules from (log_word_of (field_of placed 0)) placed) event is
+    by_header (is_header rules.syntax before fields) (missing_by rules.syntax rules.form fields) (columns_after rules before) is where
+      by_missing : (missing : Option LogColumn) (columns : Option Columns) → unless_missing missing (item_in rules columns fields) ≡ Ok (Tells event)
+          → IsNamedInRange event
+      by_missing (Some column) columns is = absurd (cc)
+      by_missing None columns is =
+          let from = from_by columns fields in
+          let placed = arranged_by rules.form columns fields in
+          carry_in_range (carried_by rules.form columns fields) (item_from rules from placed) (carried_by_small rules.form columns fields)
+          (event_in_range rules from (log_word_of (field_of placed 0)) placed) event is
+
+      by_header : (test : Bool) (missing : Option LogColumn) (columns : Option Columns)
+          → cond test (header_item rules.form (columns_of fields)) (unless_missing missing (item_in rules columns fields)) ≡ Ok (Tells event)
+          → IsNamedInRange event
+      by_header true missing columns is = absurd (header_no_event rules.form (columns_of fields) event is)
+      by_header false missing columns is = by_missing missing columns is
 
 -- so have the events among what records say
 all_after : (rules : LogRules) (before : List LogItem) (records : List Fields) (items : List LogItem) → SayAfter rules before records items
@@ -242,6 +278,7 @@ all_after rules before [] [] say = All-nil IsNamedInRange
 all_after rules before [] (item ∷ items) say = absurd say
 all_after rules before (fields ∷ records) [] say = absurd say
 all_after rules before (fields ∷ records) (Asks asked ∷ items) say = all_after rules (before ++ Asks asked ∷ []) records items say.1
+all_after rules before (fields ∷ records) (Skips ∷ items) say = all_after rules (before ++ Skips ∷ []) records items say.1
 all_after rules before (fields ∷ records) (Names columns ∷ items) say = all_after rules (before ++ Names columns ∷ []) records items say.1
 all_after rules before (fields ∷ records) (Tells event ∷ items) say =
     All-cons IsNamedInRange event (events_in items) (after_in_range rules before fields event say.0)

@@ -1,20 +1,24 @@
--- The columns of a log with a header.
-use Rattle.std.specs.Prelude.{◌==◌, ◌&&◌, ℕ, Bool, false, List, [], ◌∷◌, ◌++◌, Option, Some, None, bytes_eq, codes, if◌then◌else◌, length, nat_lt, not}
+-- The columns of a log.
+use Rattle.std.specs.Prelude.{◌==◌, ◌&&◌, ℕ, Bool, false, List, [], ◌∷◌, ◌++◌, Option, Some, None, bytes_eq, if◌then◌else◌, length, nat_lt, not}
 use Rattle.std.specs.List.{position_or_len}
 use Rattle.hlc_causality.specs.declared.event_rule.TheConstants.{MAX_FLOOR_C}
 use Rattle.hlc_stamp.specs.declared.stamp.Stamp.{Stamp}
 use Rattle.hlc_csv.specs.Rows.{Fields, field_of}
 use Rattle.hlc_log_text.specs.declared.columns.Columns.{Columns}
+use Rattle.hlc_log_text.specs.declared.log_column.LogColumn.TheVariants as column
 use Rattle.hlc_log_text.specs.declared.log_word.LogWord.{LogWord}
 use Rattle.hlc_log_text.specs.declared.log_word.LogWord.TheVariants as word
+use Rattle.hlc_log_text.specs.declared.record_syntax.RecordSyntax.{RecordSyntax}
+use Rattle.hlc_log_text.specs.declared.record_syntax.RecordSyntax.TheVariants.{Csv, JsonLines}
 use Rattle.hlc_log_text.specs.declared.stamp_form.StampForm.{StampForm}
 use Rattle.hlc_log_text.specs.declared.stamp_form.StampForm.TheVariants.{Dotted, Packed, Pair}
+use Rattle.hlc_log_text.specs.LogColumn.{column_name}
 use Rattle.hlc_log_text.specs.LogWord.{log_word_of}
 use Rattle.hlc_log_text.specs.StampForms.{fields_stamp}
 
 -- whether a record begins as a header does
 abbrev pub begins_as_header : Fields → Bool
-begins_as_header fields = bytes_eq (field_of fields 0) (codes "kind")
+begins_as_header fields = bytes_eq (field_of fields 0) (column_name column.Kind)
 
 -- where the first column of a name stands, or the end of the header if it has none
 abbrev pub column_in : Fields → (name : List ℕ) → ℕ
@@ -24,18 +28,40 @@ column_in header name = position_or_len (λ field. bytes_eq field name) header
 abbrev pub columns_of : Fields → Columns
 columns_of header = record {
   count = length header;
-  node = column_in header (codes "node");
-  reading = column_in header (codes "reading");
-  l = column_in header (codes "l");
-  c = column_in header (codes "c");
-  stamp = column_in header (codes "stamp");
-  carried = column_in header (codes "carried");
-  carried_l = column_in header (codes "carried_l");
-  carried_c = column_in header (codes "carried_c");
-  message = column_in header (codes "message");
-  from = column_in header (codes "from");
-  label = column_in header (codes "label");
+  node = column_in header (column_name column.Node);
+  reading = column_in header (column_name column.Reading);
+  l = column_in header (column_name column.L);
+  c = column_in header (column_name column.C);
+  stamp = column_in header (column_name column.Stamp);
+  carried = column_in header (column_name column.Carried);
+  carried_l = column_in header (column_name column.CarriedL);
+  carried_c = column_in header (column_name column.CarriedC);
+  message = column_in header (column_name column.Message);
+  from = column_in header (column_name column.From);
+  label = column_in header (column_name column.Label);
 }
+
+-- all columns, in the order of `all_columns`
+abbrev pub all_columns_in_place : Columns
+all_columns_in_place = record {
+  count = 12;
+  node = 1;
+  reading = 2;
+  l = 3;
+  c = 4;
+  stamp = 5;
+  message = 6;
+  from = 7;
+  carried = 8;
+  carried_l = 9;
+  carried_c = 10;
+  label = 11;
+}
+
+-- the columns of a log in a syntax, whose header names these, if it has one: records of JSON lines have all
+abbrev pub columns_by : RecordSyntax → (named : Option Columns) → Option Columns
+columns_by Csv named = named
+columns_by JsonLines named = Some all_columns_in_place
 
 -- whether a header names a column
 abbrev pub names_column : Columns → ℕ → Bool
@@ -85,7 +111,7 @@ abbrev pub arranged_after_word : StampForm → Columns → Option LogWord → Fi
 arranged_after_word form columns None fields = fields
 arranged_after_word form columns (Some w) fields = arranged form columns w fields
 
--- the fields of a record in the places that they have in a log without a header, if there is one
+-- the fields of a record in the places that they have in a log without a header, if columns are named
 abbrev pub arranged_by : StampForm → Option Columns → Fields → Fields
 arranged_by form None fields = fields
 arranged_by form (Some columns) fields = arranged_after_word form columns (log_word_of (field_of fields 0)) fields
@@ -133,7 +159,7 @@ abbrev pub carried_after_word : StampForm → Columns → Option LogWord → Fie
 carried_after_word form columns None fields = Some None
 carried_after_word form columns (Some w) fields = carried_for form columns w fields
 
--- in a log without a header nothing is told, and there is no column `from`
+-- where no columns are named nothing is told, and there is no column `from`
 abbrev pub from_by : Option Columns → Fields → Option (List ℕ)
 from_by None fields = None
 from_by (Some columns) fields = from_in columns fields

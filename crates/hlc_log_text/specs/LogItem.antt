@@ -1,5 +1,5 @@
 -- What the records of a log say.
-use Rattle.std.specs.Prelude.{ℕ, Bool, false, List, [], ◌∷◌, Option, Some, None, Result, Ok, Err, if◌then◌else◌}
+use Rattle.std.specs.Prelude.{◌==◌, ℕ, Bool, false, List, [], ◌∷◌, Option, Some, None, Result, Ok, Err, bytes_eq, codes, if◌then◌else◌, is_some, length}
 use Rattle.std.specs.List.{filter_map}
 use Rattle.hlc_stamp.specs.Order.{Pair}
 use Rattle.hlc_csv.specs.Rows.{Fields, field_of}
@@ -8,17 +8,22 @@ use Rattle.hlc_log_text.specs.declared.stamp_form.StampForm.{StampForm}
 use Rattle.hlc_log_text.specs.declared.bad_log.BadLog.{BadLog}
 use Rattle.hlc_log_text.specs.declared.bad_log.BadLog.TheVariants as bad
 use Rattle.hlc_log_text.specs.declared.columns.Columns.{Columns}
+use Rattle.hlc_log_text.specs.declared.log_column.LogColumn.{LogColumn}
 use Rattle.hlc_log_text.specs.declared.log_word.LogWord.{LogWord}
-use Rattle.hlc_log_text.specs.Columns.{arranged_by, begins_as_header, carried_by, columns_of, from_by, is_complete}
+use Rattle.hlc_log_text.specs.declared.record_syntax.RecordSyntax.{RecordSyntax}
+use Rattle.hlc_log_text.specs.declared.record_syntax.RecordSyntax.TheVariants.{Csv, JsonLines}
+use Rattle.hlc_log_text.specs.Columns.{arranged_by, begins_as_header, carried_by, columns_by, columns_of, from_by, is_complete}
 use Rattle.hlc_log_text.specs.LogWord.{log_word_of}
+use Rattle.hlc_log_text.specs.Missing.{missing_by}
 use Rattle.hlc_log_text.specs.NamedEvent.{NamedEvent, carrying, named_event_of}
 use Rattle.hlc_log_text.specs.Question.{Asked, asked_of}
 
--- a record tells of an event, asks a question, or names the columns of a log
+-- a record tells of an event, asks a question, names the columns of a log, or says that a record was left out
 pub data LogItem : Type 0 where
   Tells : NamedEvent → LogItem
   Asks : Asked → LogItem
   Names : Columns → LogItem
+  Skips : LogItem
 
 abbrev pub tells : Result NamedEvent BadLog → Result LogItem BadLog
 tells (Ok event) = Ok (Tells event)
@@ -28,10 +33,22 @@ abbrev pub asks : Result Asked BadLog → Result LogItem BadLog
 asks (Ok asked) = Ok (Asks asked)
 asks (Err why) = Err why
 
--- the first field is the word of an event: then the record is to tell of one; else it is to ask a question
+-- whether a record begins with the word of those that were left out
+abbrev pub begins_as_skip : Fields → Bool
+begins_as_skip fields = bytes_eq (field_of fields 0) (codes "skipped")
+
+-- such a record has no more fields
+abbrev pub skip_item : Fields → Result LogItem BadLog
+skip_item fields = if length fields == 1 then Ok Skips else Err bad.Fields
+
+-- what a record says that begins with no word of an event
+abbrev pub other_item : Fields → Result LogItem BadLog
+other_item fields = if begins_as_skip fields then skip_item fields else asks (asked_of fields)
+
+-- the first field is the word of an event: then the record is to tell of one; else it was left out, or is to ask a question
 abbrev pub item_after_word : LogRules → (from : Option (List ℕ)) → Option LogWord → Fields → Result LogItem BadLog
 item_after_word rules from (Some w) fields = tells (named_event_of rules w from fields)
-item_after_word rules from None fields = asks (asked_of fields)
+item_after_word rules from None fields = other_item fields
 
 -- what a record says whose fields stand in their places, with the field of the column `from`, if there is such a column, or the first reason for
 -- which it says nothing
@@ -47,16 +64,22 @@ abbrev pub header_item : StampForm → Columns → Result LogItem BadLog
 header_item form columns = if is_complete form columns then Ok (Names columns) else Err bad.Header
 
 -- the columns that the first of some items names, if it is a header
-abbrev pub columns_after : List LogItem → Option Columns
-columns_after [] = None
-columns_after (Names columns ∷ items) = Some columns
-columns_after (Tells event ∷ items) = None
-columns_after (Asks asked ∷ items) = None
+abbrev pub header_columns : List LogItem → Option Columns
+header_columns [] = None
+header_columns (Names columns ∷ items) = Some columns
+header_columns (Tells event ∷ items) = None
+header_columns (Asks asked ∷ items) = None
+header_columns (Skips ∷ items) = None
 
--- whether a record is a header, by the items of those before it: only the first may be one
-abbrev pub is_header : List LogItem → Fields → Bool
-is_header [] fields = begins_as_header fields
-is_header (item ∷ items) fields = false
+-- the columns of a log after some items: those that its header names, or all if it is of JSON lines
+abbrev pub columns_after : LogRules → List LogItem → Option Columns
+columns_after rules items = columns_by rules.syntax (header_columns items)
+
+-- whether a record is a header, by the items of those before it: only the first may be one, and none of JSON lines
+abbrev pub is_header : RecordSyntax → List LogItem → Fields → Bool
+is_header Csv [] fields = begins_as_header fields
+is_header Csv (item ∷ items) fields = false
+is_header JsonLines items fields = false
 
 -- an event, with the stamp that its message carried
 abbrev pub with_carried : Pair → Result LogItem BadLog → Result LogItem BadLog
@@ -74,22 +97,33 @@ carry None said = Err (refusal said)
 carry (Some None) said = said
 carry (Some (Some stamp)) said = with_carried stamp said
 
+-- what a record says that has its fields in these columns, or in their places if there are none
+abbrev pub item_in : LogRules → Option Columns → Fields → Result LogItem BadLog
+item_in rules columns fields =
+    carry (carried_by rules.form columns fields) (item_from rules (from_by columns fields) (arranged_by rules.form columns fields))
+
+-- a record that lacks a column says nothing, whatever the others say
+abbrev pub unless_missing : Option LogColumn → Result LogItem BadLog → Result LogItem BadLog
+unless_missing None said = said
+unless_missing (Some column) said = Err (bad.Missing column)
+
 -- what a record says, given what those before it say, or the first reason for which it says nothing
 abbrev pub item_after : LogRules → List LogItem → Fields → Result LogItem BadLog
 item_after rules items fields =
-    if is_header items fields then header_item rules.form (columns_of fields)
-    else carry (carried_by rules.form (columns_after items) fields)
-    (item_from rules (from_by (columns_after items) fields) (arranged_by rules.form (columns_after items) fields))
+    if is_header rules.syntax items fields then header_item rules.form (columns_of fields)
+    else unless_missing (missing_by rules.syntax rules.form fields) (item_in rules (columns_after rules items) fields)
 
 abbrev pub if_event : LogItem → Option NamedEvent
 if_event (Tells event) = Some event
 if_event (Asks asked) = None
 if_event (Names columns) = None
+if_event Skips = None
 
 abbrev pub if_asked : LogItem → Option Asked
 if_asked (Tells event) = None
 if_asked (Asks asked) = Some asked
 if_asked (Names columns) = None
+if_asked Skips = None
 
 -- the events among what records say, and what they ask, in their order
 abbrev pub events_in : List LogItem → List NamedEvent
@@ -98,10 +132,16 @@ events_in items = filter_map if_event items
 abbrev pub questions_in : List LogItem → List Asked
 questions_in items = filter_map if_asked items
 
+-- of the lines of records, those of the records of which something is so
+abbrev pub lines_where : (LogItem → Bool) → List LogItem → List ℕ → List ℕ
+lines_where is_so [] lines = []
+lines_where is_so (item ∷ items) [] = []
+lines_where is_so (item ∷ items) (line ∷ lines) = if is_so item then line ∷ lines_where is_so items lines else lines_where is_so items lines
+
+-- whether a record tells of an event
+abbrev pub is_telling : LogItem → Bool
+is_telling item = is_some (if_event item)
+
 -- of the lines of records, those of the records that tell of events
 abbrev pub event_lines : List LogItem → List ℕ → List ℕ
-event_lines [] lines = []
-event_lines (item ∷ items) [] = []
-event_lines (Tells event ∷ items) (line ∷ lines) = line ∷ event_lines items lines
-event_lines (Asks asked ∷ items) (line ∷ lines) = event_lines items lines
-event_lines (Names columns ∷ items) (line ∷ lines) = event_lines items lines
+event_lines items lines = lines_where is_telling items lines

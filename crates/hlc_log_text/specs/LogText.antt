@@ -17,6 +17,7 @@ use Rattle.hlc_log_text.specs.Labels.{label_at}
 use Rattle.hlc_log_text.specs.LogItem.{LogItem, events_in, questions_in}
 use Rattle.hlc_log_text.specs.NamedEvent.{NamedEvent, without_asides}
 use Rattle.hlc_log_text.specs.Question.{plain_asked}
+use Rattle.hlc_log_text.specs.Skipped.{skip_count, skipped_count}
 
 -- the name of a number
 abbrev pub name_of : List (List ℕ) → ℕ → List ℕ
@@ -80,10 +81,11 @@ pub record IsRawLogOf (events : List NamedEvent) (text : LogText) : Type 0 where
   pub labels : (place : ℕ) → label_at text.labels place ≡ label_of_event events place
   pub lines_rise : AllPairs (λ d e. d.line < e.line) text.log.events
 
--- so it has the events that records tell of, and the questions that they ask, in their order
+-- so it has the events that records tell of, and the questions that they ask, in their order, and knows how many were left out
 pub record IsRawTextOf (items : List LogItem) (text : LogText) : Type 0 where
   pub log : IsRawLogOf (events_in items) text
   pub questions : map plain_asked text.questions.items ≡ questions_in items
+  pub skipped : skipped_count text.skipped ≡ skip_count items
 
 -- the node of a name among the names of a log's nodes, if it is one
 abbrev pub node_of : List (List ℕ) → Option (List ℕ) → Option NodeId
@@ -122,11 +124,12 @@ pub record IsLogOf (events : List NamedEvent) (text : LogText) : Type 0 where
   pub labels : (place : ℕ) → label_at text.labels place ≡ label_of_event events place
   pub lines_rise : AllPairs (λ d e. d.line < e.line) text.log.events
 
--- the text has the events that records tell of and the questions that they ask, in their order
+-- the text has the events that records tell of and the questions that they ask, in their order, and knows how many were left out
 pub record IsTextOf (items : List LogItem) (text : LogText) : Type 0 where
   pub log : IsLogOf (events_in items) text
   pub questions : map plain_asked text.questions.items ≡ questions_in items
+  pub skipped : skipped_count text.skipped ≡ skip_count items
 
 -- how many records a text has
 abbrev pub record_count : LogText → ℕ
-record_count text = length text.log.events + length text.questions.items
+record_count text = length text.log.events + length text.questions.items + skipped_count text.skipped

@@ -5,6 +5,13 @@ use Rattle.hlc_log_text.specs.declared.stamp_form.StampForm.{StampForm}
 use Rattle.hlc_log_text.specs.declared.log_word.LogWord.{LogWord}
 use Rattle.hlc_log_text.specs.declared.log_word.LogWord.TheVariants as word
 
+-- the text of a word
+abbrev pub word_text : LogWord → List ℕ
+word_text word.Local = codes "local"
+word_text word.Send = codes "send"
+word_text word.Receive = codes "receive"
+word_text word.Restart = codes "restart"
+
 -- the word that a field spells
 abbrev pub log_word_of : List ℕ → Option LogWord
 log_word_of field =

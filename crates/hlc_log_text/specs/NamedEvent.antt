@@ -9,6 +9,7 @@ use Rattle.hlc_csv.specs.Number.{number_of}
 use Rattle.hlc_csv.specs.Rows.{Fields, field_of}
 use Rattle.hlc_log_text.specs.Columns.{names_sender}
 use Rattle.hlc_log_text.specs.StampForms.{form_stamp, is_empty_stamp, stamp_field_count}
+use Rattle.hlc_log_text.specs.Units.{in_unit_of_l}
 use Rattle.hlc_log_text.specs.declared.log_rules.LogRules.{LogRules}
 use Rattle.hlc_log_text.specs.declared.stamp_form.StampForm.{StampForm}
 use Rattle.hlc_log_text.specs.declared.bad_log.BadLog.{BadLog}
@@ -19,14 +20,13 @@ use Rattle.hlc_log_text.specs.declared.record_head.RecordHead.{RecordHead}
 use Rattle.hlc_log_text.specs.declared.record_head.TheConstants.{MAX_NAME_LEN}
 use Rattle.hlc_log_text.specs.LogWord.{has_fields_of, log_field_count}
 
--- a reading, if a number is one
-abbrev pub if_reading : Option ℕ → Option ℕ
-if_reading (Some n) = if nat_le 1 n && nat_le n MAX_READING then Some n else None
-if_reading None = None
+-- a number as a reading, which is n in the unit of l: the number has to be positive, and n such as a clock may read
+abbrev pub if_reading : (number n : ℕ) → Option ℕ
+if_reading number n = if nat_le 1 number && nat_le n MAX_READING then Some n else None
 
--- the reading that a field writes
-abbrev pub reading_of : List ℕ → Option ℕ
-reading_of field = if_reading (number_of field)
+-- the reading that a field writes, in the unit of l
+abbrev pub reading_of : LogRules → List ℕ → Option ℕ
+reading_of rules field = option_and_then (λ number. if_reading number (in_unit_of_l rules.form rules.units number)) (number_of field)
 
 -- what a clock is taken to have read at an event with a stamp if its record doesn't tell: l of the stamp, as far as a clock may read that
 abbrev pub assumed_reading : Pair → ℕ
@@ -37,9 +37,9 @@ abbrev pub tolerated : (tolerance reading l : ℕ) → ℕ
 tolerated tolerance reading l = max 1 (min reading (max l (reading - tolerance)))
 
 -- the reading of an event with a stamp, by its field
-abbrev pub reading_with : (tolerance : ℕ) → List ℕ → Pair → Option ℕ
-reading_with tolerance field stamp =
-    if length field == 0 then Some (assumed_reading stamp) else option_map (λ reading. tolerated tolerance reading stamp.l) (reading_of field)
+abbrev pub reading_with : LogRules → List ℕ → Pair → Option ℕ
+reading_with rules field stamp =
+    if length field == 0 then Some (assumed_reading stamp) else option_map (λ reading. tolerated rules.tolerance reading stamp.l) (reading_of rules field)
 
 -- whether a field may be a name: 1 to 256 bytes
 abbrev pub is_name : List ℕ → Bool
@@ -89,13 +89,13 @@ head_by w reading has_reading told =
     Some (record { word = w; reading = reading; has_reading = has_reading; stamp = stamp_or_zero told; has_stamp = is_some told })
 
 -- what a record says but for its names, given what its reading's field says, and what those of its stamp tell, if they are well written
-abbrev pub head_from : (tolerance : ℕ) → LogWord → List ℕ → Option (Option Stamp) → Option RecordHead
-head_from tolerance w field None = None
-head_from tolerance w field (Some told) =
-    option_and_then (λ reading. head_by w reading (not (length field == 0)) told) (reading_with tolerance field (stamp_or_zero told))
+abbrev pub head_from : LogRules → LogWord → List ℕ → Option (Option Stamp) → Option RecordHead
+head_from rules w field None = None
+head_from rules w field (Some told) =
+    option_and_then (λ reading. head_by w reading (not (length field == 0)) told) (reading_with rules field (stamp_or_zero told))
 
 abbrev pub head_with : LogRules → LogWord → Fields → Option RecordHead
-head_with rules w fields = head_from rules.tolerance w (field_of fields 2) (stamp_told rules.form w fields)
+head_with rules w fields = head_from rules w (field_of fields 2) (stamp_told rules.form w fields)
 
 -- the numbers are there: then the names are good
 abbrev pub head_or_name : Option RecordHead → Bool → Result RecordHead BadLog

@@ -16,12 +16,13 @@ use Rattle.hlc_log_text.specs.declared.bad_log.BadLog.TheVariants as bad
 use Rattle.hlc_log_text.specs.declared.log_text.LogText.{LogText}
 use Rattle.hlc_log_text.specs.declared.log_word.LogWord.{LogWord}
 use Rattle.hlc_log_text.specs.declared.partial_log.PartialLog.{PartialLog}
-use Rattle.hlc_log_text.specs.LogItem.{Asks, LogItem, Tells, columns_after, event_lines, events_in, item_after}
+use Rattle.hlc_log_text.specs.LogItem.{Asks, LogItem, Skips, Tells, event_lines, events_in, header_columns, item_after}
 use Rattle.hlc_log_text.specs.Labels.{label_at}
 use Rattle.hlc_log_text.specs.LogText.{IsRawTextOf, apart_count, apart_if, kind_message, kind_word, message_names, node_names, node_of, record_count, sender_of_event, unnamed_in}
 use Rattle.hlc_log_text.specs.Names.{with_name}
 use Rattle.hlc_log_text.specs.NamedEvent.{NamedEvent, if_message}
 use Rattle.hlc_log_text.specs.Question.{Asked}
+use Rattle.hlc_log_text.specs.Skipped.{skipped_in}
 
 -- the number of a node's name among the names, which it may have joined; none if it would be one too many, and then it hasn't joined them
 abbrev pub NumbersNode : (old new : List (List ℕ)) (name : List ℕ) → Option NodeId → Type 0
@@ -53,6 +54,7 @@ text_of partial = record {
   messages = length partial.messages;
   labels = partial.labels;
   questions = partial.questions;
+  skipped = partial.skipped;
 }
 
 -- the nodes that so many events name as senders, by their places
@@ -72,6 +74,7 @@ apart_text partial = record {
   messages = apart_count (unnamed_in partial.messages) (length partial.messages) (length partial.log.events);
   labels = partial.labels;
   questions = partial.questions;
+  skipped = partial.skipped;
 }
 
 -- what was read, with these names of nodes
@@ -82,6 +85,7 @@ text_with nodes partial = record {
   messages = apart_count (unnamed_in partial.messages) (length partial.messages) (length partial.log.events);
   labels = partial.labels;
   questions = partial.questions;
+  skipped = partial.skipped;
 }
 
 -- what was read names few nodes, and mentions no more messages than it has events
@@ -103,9 +107,10 @@ pub record IsPartialLog (items : List LogItem) (lines : List ℕ) (partial : Par
   pub ends : partial.line ≡ last_of 0 lines
   pub before : All (λ e. e.line ≤ partial.line) partial.log.events
   pub low : length items ≤ partial.line
-  pub columns : partial.columns ≡ columns_after items
+  pub columns : partial.columns ≡ header_columns items
   pub last : partial.line ≤ LAST_LINE + length items
   pub senders : (place : ℕ) → label_at partial.senders place ≡ sender_of_event (events_in items) place
+  pub skipped : partial.skipped ≡ skipped_in items lines
 
 -- one more record finds numbers for its names and its line
 pub record HasPlace (partial : PartialLog) : Type 0 where
@@ -136,6 +141,11 @@ AddsNext old event line new added = (items : List LogItem) (lines : List ℕ) �
 abbrev pub AsksNext : (old : PartialLog) → Asked → (line : ℕ) → (new : PartialLog) → Type 0
 AsksNext old asked line new =
     (items : List LogItem) (lines : List ℕ) → IsPartialLog items lines old → IsPartialLog (items ++ Asks asked ∷ []) (lines ++ line ∷ []) new
+
+-- a record is counted that was left out, whatever was read before
+abbrev pub SkipsNext : (old : PartialLog) → (line : ℕ) → (new : PartialLog) → Type 0
+SkipsNext old line new =
+    (items : List LogItem) (lines : List ℕ) → IsPartialLog items lines old → IsPartialLog (items ++ Skips ∷ []) (lines ++ line ∷ []) new
 
 -- after these the next record, which is to say this, is bad for this reason: it says nothing, or its event names one node too many
 abbrev pub IsBadSaid : List LogItem → Result LogItem BadLog → BadLog → Type 0

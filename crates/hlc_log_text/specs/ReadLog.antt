@@ -15,9 +15,11 @@ use Rattle.hlc_log_text.specs.declared.bad_log.BadLog.TheVariants as bad
 use Rattle.hlc_log_text.specs.declared.fault.LogTextFault.{LogTextFault}
 use Rattle.hlc_log_text.specs.declared.fault.LogTextFault.TheVariants as fault
 use Rattle.hlc_log_text.specs.declared.log_text.LogText.{LogText}
+use Rattle.hlc_log_text.specs.declared.skipped.Skipped.{Skipped}
 use Rattle.hlc_log_text.specs.declared.partial_log.PartialLog.{PartialLog}
 use Rattle.hlc_log_text.specs.LogItem.{LogItem, event_lines, events_in, item_after}
 use Rattle.hlc_log_text.specs.LogText.{IsTextOf, node_names}
+use Rattle.hlc_log_text.specs.Skipped.{skipped_in}
 use Rattle.hlc_log_text.specs.PartialLog.{IsBadAfter, IsPartialLog, text_with}
 
 -- each of some records says what stands at its place, after those that say what stands before
@@ -45,6 +47,11 @@ abbrev pub AreOnLines : Option (List ℕ) → List LogItem → List LogEvent →
 AreOnLines None items events = Unit {0}
 AreOnLines (Some bytes) items events = map (λ e. e.line) events ≡ event_lines items (told_lines bytes)
 
+-- if bytes are known, what was left out is told by the lines of the records that say so
+abbrev pub AreSkippedOnLines : Option (List ℕ) → List LogItem → Option Skipped → Type 0
+AreSkippedOnLines None items skipped = Unit {0}
+AreSkippedOnLines (Some bytes) items skipped = skipped ≡ skipped_in items (told_lines bytes)
+
 -- if bytes are known, this is the line of the record at a place
 abbrev pub IsOnLine : Option (List ℕ) → (place : ℕ) → ℕ → Type 0
 IsOnLine None place line = Unit {0}
@@ -62,8 +69,10 @@ pub record IsReadInto (rules : LogRules) (most : ℕ) (bytes : Option (List ℕ)
   pub make : SayItems rules records items
   pub held : IsPartialLog items lines partial
   pub on_lines : AreOnLines bytes items partial.log.events
+  pub skipped : AreSkippedOnLines bytes items partial.skipped
 
--- these bytes are records, so many at most, whose quotation marks are closed, and the text has their events and their questions
+-- these bytes are records, so many at most, whose quotation marks are closed, and the text has their events and their questions,
+-- and knows which were left out
 pub record IsReadWhole (rules : LogRules) (most : ℕ) (bytes : Option (List ℕ)) (text : LogText) : Type 0 where
   pub records : List Fields
   pub items : List LogItem
@@ -74,6 +83,7 @@ pub record IsReadWhole (rules : LogRules) (most : ℕ) (bytes : Option (List ℕ
   pub make : SayItems rules records items
   pub held : IsTextOf items text
   pub on_lines : AreOnLines bytes items text.log.events
+  pub skipped : AreSkippedOnLines bytes items text.skipped
 
 -- so it is of what was read, with these names of nodes
 abbrev pub IsTextRead : LogRules → (most : ℕ) → (bytes : Option (List ℕ)) → PartialLog → (nodes : List (List ℕ)) → Type 0

@@ -57,6 +57,12 @@ stamp_field_count Pair = 2
 stamp_field_count Dotted = 1
 stamp_field_count (Packed p) = 1
 
+-- how many low bits of a number c has: none if it isn't packed
+abbrev pub packed_bits : StampForm → ℕ
+packed_bits Pair = 0
+packed_bits Dotted = 0
+packed_bits (Packed p) = p.bits
+
 -- the greatest c that can be written
 abbrev pub greatest_c : StampForm → ℕ
 greatest_c Pair = 2 ^ 32 - 1

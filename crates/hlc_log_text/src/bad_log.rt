@@ -1,3 +1,5 @@
+use crate::log_column::LogColumn;
+
 /// Why a record of a log is bad, so that it tells of no event and asks no question: the first of these that holds.
 #[derive(Clone, Copy, Debug, PartialEq, Eq)]
 pub enum BadLog {
@@ -5,6 +7,10 @@ pub enum BadLog {
     Word,
     /// It is a header, and lacks a column that each event needs: the one of its node, or one of its stamp.
     Header,
+    /// It stands for a line of JSON lines that lacks a column which its event needs: the first such. That is the column of its node; one of its
+    /// stamp, of which a receive may lack all; at a receive that of its message, if it doesn't name its sender either; or one of the stamp that
+    /// the message carried, if it names its sender in place of that.
+    Missing(LogColumn),
     /// It has too few or too many fields for its word.
     Fields,
     /// Its reading is there and no number from 1 to `MAX_READING`, or it has no stamp in the form of the log, of which a receive may leave all
@@ -32,7 +38,7 @@ pub struct BadLine {
 
 impl BadLog {
     ghost use Rattle.std.specs.Prelude.{◌≡◌};
-    ghost use Rattle.hlc_log_text.specs.BadLog.{bad_log_word};
+    ghost use Rattle.hlc_log_text.specs.BadLog.{bad_log_column, bad_log_word};
 
     /// The word of the row that answers it.
     pub fn word(self) -> &'static [u8]
@@ -41,11 +47,22 @@ impl BadLog {
         match self {
             BadLog::Word => b"word",
             BadLog::Header => b"header",
+            BadLog::Missing(_) => b"field",
             BadLog::Fields => b"fields",
             BadLog::Number => b"number",
             BadLog::Name => b"name",
             BadLog::Node => b"node",
             BadLog::Quote => b"quote",
+        }
+    }
+
+    /// The column that the row names besides, if it names one.
+    pub fn column(self) -> Option<LogColumn>
+        ensures { result ≡ bad_log_column self }
+    {
+        match self {
+            BadLog::Missing(column) => Some(column),
+            _ => None,
         }
     }
 }

@@ -1,11 +1,14 @@
-// The columns of a log with a header.
+// The columns of a log.
 
 ghost use Rattle.std.specs.Prelude.{◌≡◌, ◌∷◌, ◌++◌, [], OnOk, option_map};
 ghost use Rattle.csv.specs.Records.{fields_of, partial_of};
 ghost use Rattle.hlc_csv.specs.Rows.{field_of};
-ghost use Rattle.hlc_log_text.specs.Columns.{begins_as_header, column_in, label_part, names_sender};
+ghost use Rattle.hlc_log_text.specs.Columns.{begins_as_header, column_in, columns_by, label_part, names_sender};
+ghost use Rattle.hlc_log_text.specs.LogColumn.{column_name};
 
+use crate::log_column::LogColumn;
 use crate::log_word::LogWord;
+use crate::record_syntax::RecordSyntax;
 use crate::stamp_form::StampForm;
 use csv::ByteRecord;
 use hlc_causality::MAX_FLOOR_C;
@@ -13,7 +16,8 @@ use hlc_csv::field;
 use hlc_stamp::Stamp;
 use std::alloc::AllocError;
 
-// Where the columns stand that a header names. One that it doesn't name stands past the last, so that its field is empty in each record.
+// Where the columns stand that a header names, or that all records of a syntax have. One that a header doesn't name stands past the last, so
+// that its field is empty in each record.
 #[derive(Clone, Copy)]
 pub(crate) struct Columns {
     // How many there are.
@@ -39,7 +43,7 @@ pub(crate) struct Columns {
 pub(crate) fn begins_as_header(fields: &ByteRecord) -> bool
     ensures { result ≡ begins_as_header (fields_of fields.now) }
 {
-    field(fields, 0) == b"kind".as_slice()
+    field(fields, 0) == LogColumn::Kind.name().as_bytes()
 }
 
 // Whether a receive names the node that sent its message, in place of this.
@@ -52,8 +56,25 @@ pub(crate) fn names_sender(from: Option<&[u8]>, message: &[u8]) -> bool
     }
 }
 
+// The columns of a log in a syntax, whose header names these, if it has one.
+pub(crate) fn columns_by(syntax: RecordSyntax, named: Option<Columns>) -> Option<Columns>
+    ensures { result ≡ columns_by syntax named }
+{
+    match syntax {
+        RecordSyntax::Csv => named,
+        RecordSyntax::JsonLines => Some(Columns::all()),
+    }
+}
+
+// Where a column stands: the first of its name.
+fn column(header: &ByteRecord, column: LogColumn) -> usize
+    ensures { result ≡ column_in (fields_of header.now) (column_name column) }
+{
+    place_of(header, column.name().as_bytes())
+}
+
 // Where the first column of a name stands.
-fn column(header: &ByteRecord, name: &[u8]) -> usize
+fn place_of(header: &ByteRecord, name: &[u8]) -> usize
     ensures { result ≡ column_in (fields_of header.now) name.now }
 {
     for place in 0..header.len() {
@@ -85,7 +106,7 @@ fn push_label(label: &[u8], placed: &mut ByteRecord) -> Result<(), AllocError>
 }
 
 impl Columns {
-    ghost use Rattle.hlc_log_text.specs.Columns.{arranged, carried_first, carried_for, carried_second, columns_of, from_in, is_complete, message_part, stamp_part};
+    ghost use Rattle.hlc_log_text.specs.Columns.{all_columns_in_place, arranged, carried_first, carried_for, carried_second, columns_of, from_in, is_complete, message_part, stamp_part};
 
     // Those that a header names.
     pub(crate) fn named(header: &ByteRecord) -> Columns
@@ -93,17 +114,37 @@ impl Columns {
     {
         Columns {
             count: header.len(),
-            node: column(header, b"node"),
-            reading: column(header, b"reading"),
-            l: column(header, b"l"),
-            c: column(header, b"c"),
-            stamp: column(header, b"stamp"),
-            carried: column(header, b"carried"),
-            carried_l: column(header, b"carried_l"),
-            carried_c: column(header, b"carried_c"),
-            message: column(header, b"message"),
-            from: column(header, b"from"),
-            label: column(header, b"label"),
+            node: column(header, LogColumn::Node),
+            reading: column(header, LogColumn::Reading),
+            l: column(header, LogColumn::L),
+            c: column(header, LogColumn::C),
+            stamp: column(header, LogColumn::Stamp),
+            carried: column(header, LogColumn::Carried),
+            carried_l: column(header, LogColumn::CarriedL),
+            carried_c: column(header, LogColumn::CarriedC),
+            message: column(header, LogColumn::Message),
+            from: column(header, LogColumn::From),
+            label: column(header, LogColumn::Label),
+        }
+    }
+
+    // All, in the order of `LogColumn`.
+    pub(crate) fn all() -> Columns
+        ensures { result ≡ all_columns_in_place }
+    {
+        Columns {
+            count: 12,
+            node: 1,
+            reading: 2,
+            l: 3,
+            c: 4,
+            stamp: 5,
+            message: 6,
+            from: 7,
+            carried: 8,
+            carried_l: 9,
+            carried_c: 10,
+            label: 11,
         }
     }
 

@@ -26,22 +26,33 @@
 //! So may `STAMP` at a receive, with each of its fields: then the event says that its log doesn't tell it, and its stamp is (0, 0) until it is
 //! given one. Its reading is taken as at that stamp: 1 if it isn't told either.
 //!
+//! Records that stand for JSON lines (`RecordSyntax::JsonLines`) have all columns, in the order of `LogColumn`, and no header. One that lacks a
+//! column which its event needs is bad, and the column is told.
+//!
+//! A record of the one field `skipped` stands for something that was left out of the log. It tells of nothing, and is counted.
+//!
 //! Records that ask questions may stand anywhere among them: `explain,LINE`, `check,LINE` and any number of lines after it,
 //! `relation,LINE,LINE`, `influenced,LINE`, `drift,NODE`, `claimed,LINE` or `event,LINE`. A question is asked of the whole log, so
 //! logs with questions can be put one after another as well.
 //!
-//! - `read_log` reads a log to its end: a `LogText` with its events (`hlc_log`), the nodes' names, the labels and the questions.
+//! - `read_log` reads a log to its end: a `LogText` with its events (`hlc_log`), the nodes' names, the labels and the questions, and which
+//!   records were left out (`Skipped`).
 //! - `Names` has names in the order in which they were first mentioned, and gives the name of a number; `node_name` gives that of a node.
 //! - `Labels` gives the label of an event by its place; only labels that are there take memory.
 //! - `LogQuestion` is what a record can ask, and `question_of` reads one from a text of its own.
-//! - `LogRules` says how a log is read: the form of its stamps, within how much of the clocks its readings are known, what the clocks do at
-//!   receives (`hlc_causality`), and what becomes of a receive of a message that nobody sends. Reading a record takes the first two.
+//! - `LogColumn` is a column, by its name, and `LogWord` the word of an event.
+//! - `LogRules` says how a log is read: the syntax of its records, the form of its stamps, the units of its readings and of `l`, within how much
+//!   of the clocks its readings are known, what the clocks do at receives (`hlc_causality`), and what becomes of a receive of a message that
+//!   nobody sends. Reading a record takes the first four.
+//! - `Units` says which unit of time readings have and which one `l` has (`TimeUnit`), where they aren't the same, as in a log whose stamps are
+//!   uhlc's and whose readings are in milliseconds. A reading is then taken as so many whole units of `l`, and one at least.
 //! - `StampForm` says how stamps are written: a hybrid logical clock's stamp has two parts, `l` and `c`, and logs show them in two fields,
 //!   as one with a dot (CockroachDB: `1700000000123456789.0000000001`), or packed into one number of 64 bits, with `c` in the low ones
 //!   (uhlc, YugabyteDB and TiDB: 4, 12 and 18 of them). `field_count` says how many fields that takes, and `full` is the
 //!   greatest `c` that can be written so. An `l` may be any number of 64 bits: which of them a clock may have is said elsewhere.
 //! - `PackedBits` says how many bits `c` has in a packed stamp; it packs a stamp, and unpacks a number.
-//! - `laws` says that packing loses nothing and keeps the order, and that a log in which each message has a name is as it was read.
+//! - `laws` says that packing loses nothing and keeps the order, that columns have names of their own, and that a log in which each message
+//!   has a name is as it was read.
 //! - `LogTextFault` says why a log could not be read; for a record that is bad, `BadLine` has its line and the reason. A log that
 //!   ends within a field which a quotation mark opens is none: it is cut, or one quotation mark is missing.
 //!
@@ -77,9 +88,11 @@ mod fault;
 mod hints;
 mod labels;
 pub mod laws;
+mod log_column;
 mod log_rules;
 mod log_text;
 mod log_word;
+mod missing;
 mod name_set;
 mod names;
 mod node_names;
@@ -90,13 +103,19 @@ mod question_text;
 mod question_word;
 mod read;
 mod record_head;
+mod record_syntax;
+mod skipped;
 mod stamp_form;
+mod time_unit;
+mod units;
 
 pub use bad_log::{BadLine, BadLog};
 pub use fault::LogTextFault;
 pub use labels::Labels;
+pub use log_column::LogColumn;
 pub use log_rules::LogRules;
 pub use log_text::LogText;
+pub use log_word::LogWord;
 pub use names::Names;
 pub use node_names::node_name;
 pub use packed_bits::PackedBits;
@@ -104,4 +123,8 @@ pub use question::{Line, LogQuestion};
 pub use question_text::question_of;
 pub use read::read_log;
 pub use record_head::MAX_NAME_LEN;
+pub use record_syntax::RecordSyntax;
+pub use skipped::Skipped;
 pub use stamp_form::StampForm;
+pub use time_unit::TimeUnit;
+pub use units::Units;

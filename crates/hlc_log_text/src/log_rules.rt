@@ -1,13 +1,19 @@
 ghost use Rattle.std.specs.Prelude.{◌≡◌};
 
+use crate::record_syntax::RecordSyntax;
 use crate::stamp_form::StampForm;
+use crate::units::Units;
 use hlc_causality::Receives;
 
 /// How the records of a log are read.
 #[derive(Clone, Copy, Debug, PartialEq, Eq)]
 pub struct LogRules {
+    /// In which syntax the records were written.
+    pub syntax: RecordSyntax,
     /// How stamps are written.
     pub form: StampForm,
+    /// In which units readings and `l` are, if readings aren't in that of `l`.
+    pub units: Option<Units>,
     /// Within how much of the clock its readings are known, in the unit of `l`: 0 if they are exact.
     pub tolerance: u64,
     /// What the clocks do at receives.
@@ -19,12 +25,14 @@ pub struct LogRules {
 impl LogRules {
     ghost use Rattle.hlc_log_text.specs.LogRules.{exact_rules};
 
-    /// Stamps in this form, exact readings, receives that tick, and none of a message that nobody sends.
+    /// Records of CSV, stamps in this form, exact readings in the unit of `l`, receives that tick, and none of a message that nobody sends.
     pub fn exact(form: StampForm) -> LogRules
         ensures { result ≡ exact_rules form }
     {
         LogRules {
+            syntax: RecordSyntax::Csv,
             form,
+            units: None,
             tolerance: 0,
             receives: Receives::Tick,
             unsent_local: false,

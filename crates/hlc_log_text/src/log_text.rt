@@ -1,6 +1,7 @@
 use crate::labels::Labels;
 use crate::names::Names;
 use crate::question::LogQuestion;
+use crate::skipped::Skipped;
 use hlc_log::Log;
 
 /// A log that was read, with its names.
@@ -17,4 +18,6 @@ pub struct LogText {
     pub labels: Labels,
     /// What is asked of the whole log, in the order of the records.
     pub questions: Vec<LogQuestion>,
+    /// Which records were left out, if some were.
+    pub skipped: Option<Skipped>,
 }

@@ -1,8 +1,8 @@
 use crate::stamp_form::StampForm;
 
-/// The word with which a record of a log begins.
-#[derive(Clone, Copy, PartialEq, Eq)]
-pub(crate) enum LogWord {
+/// The word with which a record of a log begins that tells of an event.
+#[derive(Clone, Copy, Debug, PartialEq, Eq)]
+pub enum LogWord {
     /// `local,NODE,READING,STAMP`.
     Local,
     /// `send,NODE,READING,STAMP,MESSAGE`.
@@ -15,22 +15,34 @@ pub(crate) enum LogWord {
 
 impl LogWord {
     ghost use Rattle.std.specs.Prelude.{◌≡◌};
-    ghost use Rattle.hlc_log_text.specs.LogWord.{log_field_count, log_word_of};
+    ghost use Rattle.hlc_log_text.specs.LogWord.{log_field_count, log_word_of, word_text};
 
     /// The word that a field spells.
-    pub(crate) fn parse(field: &[u8]) -> Option<LogWord>
+    pub fn parse(field: &[u8]) -> Option<LogWord>
         ensures { result ≡ log_word_of field.now }
     {
-        if field == b"local".as_slice() {
+        if field == LogWord::Local.text() {
             Some(LogWord::Local)
-        } else if field == b"send".as_slice() {
+        } else if field == LogWord::Send.text() {
             Some(LogWord::Send)
-        } else if field == b"receive".as_slice() {
+        } else if field == LogWord::Receive.text() {
             Some(LogWord::Receive)
-        } else if field == b"restart".as_slice() {
+        } else if field == LogWord::Restart.text() {
             Some(LogWord::Restart)
         } else {
             None
+        }
+    }
+
+    /// The text of the word.
+    pub fn text(self) -> &'static [u8]
+        ensures { result.now ≡ word_text self }
+    {
+        match self {
+            LogWord::Local => b"local",
+            LogWord::Send => b"send",
+            LogWord::Receive => b"receive",
+            LogWord::Restart => b"restart",
         }
     }
 

@@ -4,25 +4,28 @@ ghost use Rattle.std.specs.Prelude.{◌≡◌, ◌^◌, ◌<◌, ◌≤◌, ℕ,
 ghost use Rattle.csv.specs.Records.{fields_of};
 ghost use Rattle.hlc_csv.specs.Rows.{field_of};
 ghost use Rattle.hlc_log_text.specs.Columns.{columns_of};
-ghost use Rattle.hlc_log_text.specs.LogItem.{LogItem, carry, header_item, is_header, item_after, item_from, item_of};
+ghost use Rattle.hlc_log_text.specs.LogItem.{LogItem, asks, begins_as_skip, carry, columns_after, header_item, is_header, item_after, item_from, item_in, other_item, skip_item};
 ghost use Rattle.hlc_log_text.specs.LogText.{apart_count, node_of, unnamed_in};
 ghost use Rattle.hlc_log_text.specs.LogWord.{log_word_of};
 ghost use Rattle.hlc_log_text.specs.Names.{with_name};
 ghost use Rattle.hlc_log_text.specs.NamedEvent.{carrying, if_sender, told_by};
-ghost use Rattle.hlc_log_text.specs.PartialLog.{AddsNext, AsksNext, HasFewNames, HasPlace, IsFinished, IsNextLine, IsPartialLog, NumbersNode, TakesNext, TakesOr, TakesSaid, TellsKind, apart_log, nodes_named, text_with, told_line};
-ghost use Rattle.hlc_log_text.specs.Question.{plain_asked};
+ghost use Rattle.hlc_log_text.specs.PartialLog.{AddsNext, AsksNext, HasFewNames, HasPlace, IsFinished, IsNextLine, IsPartialLog, NumbersNode, SkipsNext, TakesNext, TakesOr, TakesSaid, TellsKind, apart_log, nodes_named, text_with, told_line};
+ghost use Rattle.hlc_log_text.specs.Question.{asked_of, plain_asked};
 
 use crate::bad_log::{BadLine, BadLog};
-use crate::columns::{Columns, begins_as_header, names_sender};
+use crate::columns::{Columns, begins_as_header, columns_by, names_sender};
 use crate::hints::Hints;
 use crate::labels::Labels;
 use crate::log_rules::LogRules;
 use crate::log_text::LogText;
 use crate::log_word::LogWord;
+use crate::missing::missing_by;
 use crate::name_set::NameSet;
 use crate::names::Names;
 use crate::question::LogQuestion;
 use crate::record_head::{Beside, NODE_PLACE, RecordHead, label, message_place, parse_carrying};
+use crate::record_syntax::RecordSyntax;
+use crate::skipped::Skipped;
 use crate::stamp_form::StampForm;
 use csv::ByteRecord;
 use hlc_csv::{FoundRecord, field};
@@ -42,9 +45,10 @@ pub(crate) struct PartialLog {
     senders: Labels,
     questions: Vec<LogQuestion>,
     pub(crate) line: u32,
-    // If the log has a header.
+    // Those that its header names, if the log has one.
     columns: Option<Columns>,
     hints: Hints,
+    skipped: Option<Skipped>,
 }
 
 // The names of a record, and its label.
@@ -56,6 +60,13 @@ struct RecordNames<'a> {
     // The field of the column `from`, if there is such a column.
     from: Option<&'a [u8]>,
     label: Option<&'a [u8]>,
+}
+
+// Whether a record begins with the word of those that were left out.
+fn begins_as_skip(fields: &ByteRecord) -> bool
+    ensures { result ≡ begins_as_skip (fields_of fields.now) }
+{
+    field(fields, 0) == b"skipped".as_slice()
 }
 
 // Whether a node has this name.
@@ -171,6 +182,7 @@ impl PartialLog {
             line: 0,
             columns: None,
             hints: Hints::new(),
+            skipped: None,
         }
     }
 
@@ -210,13 +222,33 @@ impl PartialLog {
         requires line { IsNextLine self.old line }
         ensures { IfOk result (TakesSaid (λ items. item_after rules items (fields_of fields.now)) self.old line self.new) }
     {
-        if self.is_header(fields) {
+        if self.is_header(rules.syntax, fields) {
             return Ok(self.take_header(rules.form, fields, line));
         }
         let Some(word) = LogWord::parse(field(fields, 0)) else {
-            return self.take_question(rules, fields, line);
+            return self.take_other(fields, line);
         };
-        let Some(columns) = self.columns else {
+        if let Some(column) = missing_by(rules.syntax, rules.form, word, fields) {
+            return Ok(Some(BadLog::Missing(column)));
+        }
+        self.take_placed(rules, word, fields, arranged, line)
+    }
+
+    // Takes in a record that begins with a word of events, with its fields in the columns of the log, or tells why it is bad.
+    fn take_placed(
+        &mut self,
+        rules: LogRules,
+        word: LogWord,
+        fields: &ByteRecord,
+        arranged: &mut ByteRecord,
+        line: u32,
+    ) -> Result<Option<BadLog>, AllocError>
+        requires word { log_word_of (field_of (fields_of fields.now) 0) ≡ Some word }
+        requires place { HasPlace self.old }
+        requires line { IsNextLine self.old line }
+        ensures { IfOk result (TakesSaid (λ items. item_in rules (columns_after rules items) (fields_of fields.now)) self.old line self.new) }
+    {
+        let Some(columns) = columns_by(rules.syntax, self.columns) else {
             let beside = Beside {
                 carried: Some(None),
                 from: None,
@@ -231,11 +263,15 @@ impl PartialLog {
         self.take_event(rules, word, arranged, beside, line)
     }
 
-    // Whether the next record is a header: it is the first, and begins as one does.
-    fn is_header(&self, fields: &ByteRecord) -> bool
-        ensures { (items : List LogItem) (lines : List ℕ) → IsPartialLog items lines self.now → result ≡ is_header items (fields_of fields.now) }
+    // Whether the next record is a header: it is the first, begins as one does, and wasn't written as a line of JSON lines.
+    fn is_header(&self, syntax: RecordSyntax, fields: &ByteRecord) -> bool
+        ensures { (items : List LogItem) (lines : List ℕ) → IsPartialLog items lines self.now
+            → result ≡ is_header syntax items (fields_of fields.now) }
     {
-        self.line == 0 && begins_as_header(fields)
+        match syntax {
+            RecordSyntax::Csv => self.line == 0 && begins_as_header(fields),
+            RecordSyntax::JsonLines => false,
+        }
     }
 
     // Takes in a header, or tells why it is bad.
@@ -286,15 +322,48 @@ impl PartialLog {
     }
 
     // Takes in a record that begins with no word of events.
+    fn take_other(&mut self, fields: &ByteRecord, line: u32) -> Result<Option<BadLog>, AllocError>
+        requires place { HasPlace self.old }
+        requires line { IsNextLine self.old line }
+        ensures { IfOk result (TakesSaid (λ _. other_item (fields_of fields.now)) self.old line self.new) }
+    {
+        if begins_as_skip(fields) {
+            return Ok(self.take_skip(fields, line));
+        }
+        self.take_question(fields, line)
+    }
+
+    // Takes in a record that says that it was left out, or tells why it is bad.
+    fn take_skip(&mut self, fields: &ByteRecord, line: u32) -> Option<BadLog>
+        requires place { HasPlace self.old }
+        requires line { IsNextLine self.old line }
+        ensures { TakesSaid (λ _. skip_item (fields_of fields.now)) self.old line self.new result }
+    {
+        if fields.len() != 1 {
+            return Some(BadLog::Fields);
+        }
+        self.skip(line);
+        None
+    }
+
+    // Counts a record that was left out.
+    fn skip(&mut self, line: u32)
+        requires place { HasPlace self.old }
+        requires line { IsNextLine self.old line }
+        ensures { SkipsNext self.old line self.new }
+    {
+        self.skipped = Some(Skipped::with(self.skipped, line));
+        self.line = line;
+    }
+
+    // Takes in a record that is to ask a question.
     fn take_question(
         &mut self,
-        rules: LogRules,
         fields: &ByteRecord,
         line: u32,
     ) -> Result<Option<BadLog>, AllocError>
-        requires word { log_word_of (field_of (fields_of fields.now) 0) ≡ None }
-        requires line { IsNextLine self.old line }
-        ensures { IfOk result (TakesSaid (λ _. item_of rules (fields_of fields.now)) self.old line self.new) }
+        requires { IsNextLine self.old line }
+        ensures { IfOk result (TakesSaid (λ _. asks (asked_of (fields_of fields.now))) self.old line self.new) }
     {
         let alloc = *self.questions.allocator();
         match LogQuestion::parse(alloc, fields)? {
@@ -401,6 +470,7 @@ impl PartialLog {
             log,
             labels,
             questions,
+            skipped,
             ..
         } = self;
         LogText {
@@ -409,6 +479,7 @@ impl PartialLog {
             messages,
             labels,
             questions,
+            skipped,
         }
     }
 

@@ -1,12 +1,14 @@
 ghost use Rattle.std.specs.Prelude.{◌≡◌, option_map};
 ghost use Rattle.csv.specs.Records.{fields_of};
-ghost use Rattle.hlc_log_text.specs.NamedEvent.{assumed_reading, carried_head_of, has_good_names, head_of, head_with, is_name, is_received_name, is_sent_name, label_of, message_place, reading_of, reading_with, restart_head, stamp_told, tolerated};
+ghost use Rattle.hlc_log_text.specs.NamedEvent.{assumed_reading, carried_head_of, has_good_names, head_of, head_with, if_reading, is_name, is_received_name, is_sent_name, label_of, message_place, reading_of, reading_with, restart_head, stamp_told, tolerated};
 ghost use Rattle.hlc_log_text.specs.LogWord.{has_fields_of};
+ghost use Rattle.hlc_log_text.specs.Units.{in_unit_of_l};
 
 use crate::bad_log::BadLog;
 use crate::log_rules::LogRules;
 use crate::log_word::LogWord;
 use crate::stamp_form::StampForm;
+use crate::units::Units;
 use csv::ByteRecord;
 use hlc_causality::MAX_FLOOR_C;
 use hlc_csv::{field, number};
@@ -46,12 +48,36 @@ pub(crate) struct Beside<'a> {
     pub(crate) from: Option<&'a [u8]>,
 }
 
-// The reading that a field writes.
+// A number of the unit of readings in the unit of `l`.
 #[inline]
-fn reading(field: &[u8]) -> Option<u64>
-    ensures { result ≡ reading_of field.now }
+fn in_unit_of_l(form: StampForm, units: Option<Units>, number: u64) -> u128
+    ensures { result ≡ in_unit_of_l form units number }
 {
-    number(field).filter(|reading| (1..=MAX_READING).contains(reading))
+    match units {
+        None => u128::from(number),
+        Some(units) => units.convert(form, number),
+    }
+}
+
+// A number that a log writes, as the reading that it is in the unit of `l`.
+#[inline]
+fn if_reading(number: u64, in_unit_of_l: u128) -> Option<u64>
+    ensures { result ≡ if_reading number in_unit_of_l }
+{
+    if number >= 1 && in_unit_of_l <= u128::from(MAX_READING) {
+        Some(in_unit_of_l as u64)
+    } else {
+        None
+    }
+}
+
+// The reading that a field writes, in the unit of `l`.
+#[inline]
+fn reading(rules: LogRules, field: &[u8]) -> Option<u64>
+    ensures { result ≡ reading_of rules field.now }
+{
+    let number = number(field)?;
+    if_reading(number, in_unit_of_l(rules.form, rules.units, number))
 }
 
 // What a clock is taken to have read at an event with a stamp if its record doesn't tell.
@@ -73,14 +99,14 @@ fn tolerated(tolerance: u64, reading: u64, l: u64) -> u64
 
 // The reading of an event with a stamp, by its field.
 #[inline]
-fn reading_with(tolerance: u64, field: &[u8], stamp: Stamp) -> Option<u64>
-    ensures { result ≡ reading_with tolerance field.now stamp }
+fn reading_with(rules: LogRules, field: &[u8], stamp: Stamp) -> Option<u64>
+    ensures { result ≡ reading_with rules field.now stamp }
 {
     if field.is_empty() {
         return Some(assumed_reading(stamp));
     }
-    let reading = reading(field)?;
-    Some(tolerated(tolerance, reading, stamp.l))
+    let reading = reading(rules, field)?;
+    Some(tolerated(rules.tolerance, reading, stamp.l))
 }
 
 // Whether a field may be a name.
@@ -157,7 +183,7 @@ fn make_head(rules: LogRules, word: LogWord, fields: &ByteRecord) -> Option<Reco
     let told = told_stamp(rules.form, word, fields)?;
     let stamp = told.unwrap_or(Stamp { l: 0, c: 0 });
     let read = field(fields, READING_PLACE);
-    let reading = reading_with(rules.tolerance, read, stamp)?;
+    let reading = reading_with(rules, read, stamp)?;
     match word {
         LogWord::Local | LogWord::Send | LogWord::Receive => Some(RecordHead {
             word,

@@ -1,4 +1,4 @@
-ghost use Rattle.std.specs.Prelude.{◌≡◌, ◌==◌, ◌-◌, ◌^◌, ◌<◌, IfSome, length, position};
+ghost use Rattle.std.specs.Prelude.{◌≡◌, ◌==◌, ◌-◌, ◌^◌, ◌<◌, ◌≤◌, IfSome, length, position};
 ghost use Rattle.csv.specs.Records.{fields_of};
 ghost use Rattle.hlc_log_text.specs.StampForms.{count_of, dotted_stamp, pair_stamp};
 
@@ -53,7 +53,7 @@ fn dotted(field: &[u8]) -> Option<Stamp>
 }
 
 impl StampForm {
-    ghost use Rattle.hlc_log_text.specs.StampForms.{fields_stamp, form_stamp, greatest_c, is_empty_stamp, stamp_field_count};
+    ghost use Rattle.hlc_log_text.specs.StampForms.{fields_stamp, form_stamp, greatest_c, is_empty_stamp, packed_bits, stamp_field_count};
 
     /// How many fields a stamp takes.
     pub fn field_count(self) -> usize
@@ -98,6 +98,18 @@ impl StampForm {
             StampForm::Pair => pair(first, second),
             StampForm::Dotted => dotted(first),
             StampForm::Packed(bits) => Some(bits.unpack(number(first)?)),
+        }
+    }
+
+    // How many low bits of a number `c` has: none if it isn't packed.
+    #[inline]
+    pub(crate) fn packed_bits(self) -> u32
+        ensures bits { result ≡ packed_bits self }
+        ensures few { result ≤ 32 }
+    {
+        match self {
+            StampForm::Pair | StampForm::Dotted => 0,
+            StampForm::Packed(packed) => packed.bits,
         }
     }
 

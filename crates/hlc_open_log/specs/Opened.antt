@@ -10,15 +10,17 @@ use Rattle.hlc_log_text.specs.StampForms.{greatest_c}
 use Rattle.hlc_log_text.specs.declared.log_rules.LogRules.{LogRules}
 use Rattle.hlc_log_text.specs.declared.log_text.LogText.{LogText}
 use Rattle.hlc_log_text.specs.declared.question.LogQuestion.{LogQuestion}
+use Rattle.hlc_log_text.specs.declared.skipped.Skipped.{Skipped}
 
 -- a log in a causal order, with the names of its nodes, its labels, what is asked in it, how many of its receives were taken as local events, if they
--- were to be, and the greatest c that the form of its stamps writes
+-- were to be, which records were left out of it, if some were, and the greatest c that the form of its stamps writes
 pub record OpenedLog : Type 0 where
   pub log : LogInOrder
   pub nodes : List (List ℕ)
   pub labels : List (ℕ × List ℕ)
   pub questions : List LogQuestion
   pub unsent : Option ℕ
+  pub skipped : Option Skipped
   pub full : ℕ
 
 -- the record of each event begins on a later line than those before it
@@ -45,6 +47,7 @@ pub record IsReordered (before after : OpenedLog) : Type 0 where
   pub labels : after.labels ≡ before.labels
   pub questions : after.questions ≡ before.questions
   pub unsent : after.unsent ≡ before.unsent
+  pub skipped : after.skipped ≡ before.skipped
   pub full : after.full ≡ before.full
 
 -- the events of a log that was read as they are opened: receives of messages that nobody sends came in from outside if it is told what these carried,
@@ -69,6 +72,7 @@ pub record IsOpenedOf (rules : LogRules) (text : LogText) (opened : OpenedLog) :
   pub nodes : opened.nodes ≡ text.nodes
   pub labels : opened.labels ≡ text.labels
   pub questions : opened.questions ≡ text.questions.items
+  pub skipped : opened.skipped ≡ text.skipped
   pub full : opened.full ≡ greatest_c rules.form
 
 -- the bytes are a log of at most so many records, which is opened

@@ -1,16 +1,18 @@
 -- Input that can't be opened.
 use Rattle.std.specs.Prelude.{◌≡◌, ◌⊎◌, ℕ, List, [], ◌∷◌, Option, Some, None, codes, decimal}
-use Rattle.hlc_csv.specs.Rows.{text_of_row}
+use Rattle.hlc_csv.specs.Rows.{Fields, text_of_row}
 use Rattle.hlc_log.specs.Events.{event_at}
 use Rattle.hlc_log.specs.Faults.{IsFaultOf}
 use Rattle.hlc_log.specs.declared.log_event.LogEvent.{LogEvent}
 use Rattle.hlc_log.specs.declared.order_fault.OrderFault.{OrderFault}
 use Rattle.hlc_log.specs.declared.order_fault.OrderFault.TheVariants as order
-use Rattle.hlc_log_text.specs.BadLog.{bad_log_word}
+use Rattle.hlc_log_text.specs.BadLog.{bad_log_column, bad_log_word}
+use Rattle.hlc_log_text.specs.LogColumn.{column_name}
 use Rattle.hlc_log_text.specs.ReadLog.{HasTooMany, IsReadUpToBad, IsReadWhole}
 use Rattle.hlc_log_text.specs.declared.bad_log.BadLine.{BadLine}
 use Rattle.hlc_log_text.specs.declared.fault.LogTextFault.{LogTextFault}
 use Rattle.hlc_log_text.specs.declared.fault.LogTextFault.TheVariants as text
+use Rattle.hlc_log_text.specs.declared.log_column.LogColumn.{LogColumn}
 use Rattle.hlc_log_text.specs.declared.log_rules.LogRules.{LogRules}
 use Rattle.hlc_log_text.specs.declared.log_text.LogText.{LogText}
 use Rattle.hlc_open_log.specs.Opened.{opened_events}
@@ -27,9 +29,25 @@ reason_word bad.SentTwice = codes "sent-twice"
 reason_word bad.Unsent = codes "unsent"
 reason_word bad.Cycle = codes "cycle"
 
--- the row of the line at which input is bad, as text
+-- the column that the row names besides, if it names one
+abbrev pub reason_column : BadReason → Option LogColumn
+reason_column (bad.Record why) = bad_log_column why
+reason_column bad.SentTwice = None
+reason_column bad.Unsent = None
+reason_column bad.Cycle = None
+
+-- the field of a column's name, if there is a column
+abbrev pub column_part : Option LogColumn → Fields
+column_part None = []
+column_part (Some column) = column_name column ∷ []
+
+-- the row of the line at which input is bad
+abbrev pub bad_row : BadInput → Fields
+bad_row b = codes "bad" ∷ decimal b.line ∷ reason_word b.why ∷ column_part (reason_column b.why)
+
+-- the same as text
 abbrev pub bad_text : BadInput → List ℕ
-bad_text b = text_of_row (codes "bad" ∷ decimal b.line ∷ reason_word b.why ∷ [])
+bad_text b = text_of_row (bad_row b)
 
 -- why a log with this fault is bad; out of memory is no reason
 abbrev pub order_reason : OrderFault → Option BadReason

@@ -1,4 +1,4 @@
-use hlc_log_text::BadLog;
+use hlc_log_text::{BadLog, LogColumn};
 
 /// Why input can't be opened as a log: the first of these that holds.
 #[derive(Clone, Copy, Debug)]
@@ -24,7 +24,7 @@ pub struct BadInput {
 
 impl BadReason {
     ghost use Rattle.std.specs.Prelude.{◌≡◌};
-    ghost use Rattle.hlc_open_log.specs.Unopened.{reason_word};
+    ghost use Rattle.hlc_open_log.specs.Unopened.{reason_column, reason_word};
 
     /// The word of the row that answers it.
     pub fn word(self) -> &'static [u8]
@@ -35,6 +35,16 @@ impl BadReason {
             BadReason::SentTwice => b"sent-twice",
             BadReason::Unsent => b"unsent",
             BadReason::Cycle => b"cycle",
+        }
+    }
+
+    /// The column that the row names besides, if it names one.
+    pub fn column(self) -> Option<LogColumn>
+        ensures { result ≡ reason_column self }
+    {
+        match self {
+            BadReason::Record(why) => why.column(),
+            BadReason::SentTwice | BadReason::Unsent | BadReason::Cycle => None,
         }
     }
 }

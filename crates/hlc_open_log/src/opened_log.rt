@@ -1,5 +1,5 @@
 use hlc_log_report::OrderedLog;
-use hlc_log_text::{Labels, LogQuestion, Names};
+use hlc_log_text::{Labels, LogQuestion, Names, Skipped};
 use hlc_stamp::EventId;
 use std::alloc::{AllocError, Global};
 use std::marker::Model;
@@ -12,6 +12,7 @@ pub struct OpenLog {
     pub(crate) labels: Labels,
     pub(crate) questions: Vec<LogQuestion>,
     pub(crate) unsent: Option<u32>,
+    pub(crate) skipped: Option<Skipped>,
     pub(crate) full: u32,
 }
 
@@ -26,6 +27,7 @@ impl Model for OpenLog {
       labels = a.labels;
       questions = a.questions.items;
       unsent = a.unsent;
+      skipped = a.skipped;
       full = a.full;
     } };
 
@@ -35,6 +37,7 @@ impl Model for OpenLog {
       labels = a.labels;
       questions = a.questions.items;
       unsent = a.unsent;
+      skipped = a.skipped;
       full = a.full;
     }) };
 }
@@ -96,6 +99,13 @@ impl OpenLog {
         ensures { result ≡ self.now.unsent }
     {
         self.unsent
+    }
+
+    /// Which records were left out of the log, if some were.
+    pub fn skipped(&self) -> Option<Skipped>
+        ensures { result ≡ self.now.skipped }
+    {
+        self.skipped
     }
 
     /// The greatest `c` that the form of its stamps can write.

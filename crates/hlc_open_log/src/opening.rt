@@ -103,6 +103,7 @@ fn open_text(alloc: Global, text: LogText, rules: LogRules) -> Result<OpenLog, O
         messages,
         labels,
         questions,
+        skipped,
     } = text;
     let (ordered, unsent) = in_order(alloc, log, messages as u32, nodes.len() as u16, rules)?;
     Ok(OpenLog {
@@ -111,6 +112,7 @@ fn open_text(alloc: Global, text: LogText, rules: LogRules) -> Result<OpenLog, O
         labels,
         questions,
         unsent,
+        skipped,
         full: rules.form.full(),
     })
 }

@@ -8,6 +8,7 @@ use Rattle.hlc_stamp.specs.declared.settings.Settings.{Settings}
 use Rattle.hlc_causality.specs.declared.receives.Receives.{Receives}
 use Rattle.hlc_causality.specs.declared.receives.Receives.TheVariants.{Merge, MergeClock, Tick}
 use Rattle.hlc_log_text.specs.declared.log_rules.LogRules.{LogRules}
+use Rattle.hlc_log_text.specs.declared.record_syntax.RecordSyntax.TheVariants.{Csv}
 use Rattle.hlc_log_text.specs.declared.stamp_form.StampForm.{StampForm}
 use Rattle.hlc_log_text.specs.declared.stamp_form.StampForm.TheVariants.{Pair, Dotted, Packed}
 use Rattle.hlc_log_text.specs.ReadLog.{HasTooMany}
@@ -93,7 +94,9 @@ IsStorm nodes steps seed status answer = (status ≡ PAGE_OK) × Appends (Some [
 
 -- these are the rules of which these are the numbers
 pub record AreRulesOf (form tolerance receives : ℕ) (unsent_local : Bool) (limit : ℕ) (report : Bool) (rules : AuditRules) : Type 0 where
+  pub syntax_is : rules.records.syntax ≡ Csv
   pub form_is : IsFormOf form rules.records.form
+  pub units_are : rules.records.units ≡ None
   pub tolerance_is : rules.records.tolerance ≡ tolerance
   pub receives_are : rules.records.receives ≡ receives_of receives
   pub unsent_is : rules.records.unsent_local ≡ unsent_local
@@ -122,12 +125,14 @@ IsAudit form tolerance receives unsent_local limit report log status answer =
 -- that log, read so, has more records than are taken
 abbrev pub IsLogTooLong : (form tolerance receives : ℕ) → (log : List ℕ) → Type 0
 IsLogTooLong form tolerance receives log =
-    (rules : LogRules) × IsFormOf form rules.form × (rules.tolerance ≡ tolerance) × (rules.receives ≡ receives_of receives)
-    × HasTooMany rules MAX_CAPACITY (Some log)
+    (rules : LogRules) × (rules.syntax ≡ Csv) × IsFormOf form rules.form × (rules.units ≡ None) × (rules.tolerance ≡ tolerance)
+    × (rules.receives ≡ receives_of receives) × HasTooMany rules MAX_CAPACITY (Some log)
 
 -- these are the options to draw a log of which these are the numbers
 pub record AreDrawingOf (form tolerance receives : ℕ) (unsent_local : Bool) (explained from to : ℕ) (options : DrawLogOptions) : Type 0 where
+  pub syntax_is : options.records.syntax ≡ Csv
   pub form_is : IsFormOf form options.records.form
+  pub units_are : options.records.units ≡ None
   pub tolerance_is : options.records.tolerance ≡ tolerance
   pub receives_are : options.records.receives ≡ receives_of receives
   pub unsent_is : options.records.unsent_local ≡ unsent_local

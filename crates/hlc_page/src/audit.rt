@@ -1,15 +1,30 @@
-ghost use Rattle.std.specs.Prelude.{◌≡◌};
-ghost use Rattle.hlc_page.specs.Answer.{IsAudit, IsLogTooLong};
+ghost use Rattle.std.specs.Prelude.{◌≡◌, ◌⊎◌, ◌≤◌};
+ghost use Rattle.hlc_page.specs.Answer.{IsAudit, IsLogTooLong, outcome_status};
 ghost use Rattle.hlc_page.specs.Status.{IsStatusOf};
 
 use crate::options::rules;
 use crate::room::put;
 use crate::status::{
-    PAGE_BAD_LOG, PAGE_BROKEN, PAGE_OK, PAGE_OVER_LIMIT, PAGE_SETTINGS, PAGE_TOO_LONG, status,
+    PAGE_BAD_LOG, PAGE_BROKEN, PAGE_OK, PAGE_OVER_LIMIT, PAGE_ROOM, PAGE_SETTINGS, PAGE_TOO_LONG,
+    status,
 };
 use hlc_command_fault::CommandFault;
 use hlc_log_audit::{Outcome, audit_run};
 use std::alloc::Global;
+
+// The status that says what an audit found.
+fn outcome_status(outcome: Outcome) -> u32
+    ensures value { result ≡ outcome_status outcome }
+    ensures answered { (result ≤ PAGE_BAD_LOG) ⊎ (result ≡ PAGE_OVER_LIMIT) }
+    ensures room { ¬ (result ≡ PAGE_ROOM) }
+{
+    match outcome {
+        Outcome::Sound => PAGE_OK,
+        Outcome::OverLimit => PAGE_OVER_LIMIT,
+        Outcome::Broken { .. } => PAGE_BROKEN,
+        Outcome::BadLog => PAGE_BAD_LOG,
+    }
+}
 
 /// Audits a log, as `hlc audit` does: questions stand in the log itself. Stamps are written in two fields if the form is 0, packed with
 /// that many bits for `c` if it is 1 to 32, and dotted otherwise. Readings are known to within the tolerance. At a receive clocks tick if
@@ -41,10 +56,7 @@ pub extern "C" fn hlc_page_audit(
     );
     let mut rows = Vec::new(alloc);
     match audit_run(alloc, log, &mut rows, rules, &[]) {
-        Ok(Outcome::Sound) => put(&rows, PAGE_OK, room, told),
-        Ok(Outcome::OverLimit) => put(&rows, PAGE_OVER_LIMIT, room, told),
-        Ok(Outcome::Broken { .. }) => put(&rows, PAGE_BROKEN, room, told),
-        Ok(Outcome::BadLog) => put(&rows, PAGE_BAD_LOG, room, told),
+        Ok(audited) => put(&rows, outcome_status(audited.outcome), room, told),
         Err(fault) => status(CommandFault::from(fault)),
     }
 }

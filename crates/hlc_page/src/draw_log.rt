@@ -37,7 +37,7 @@ pub extern "C" fn hlc_page_draw_log(
         to,
     );
     let mut picture = Vec::new(alloc);
-    match draw_log(alloc, log, &mut picture, options) {
+    match draw_log(alloc, log, &mut picture, options, None) {
         Ok(()) => put(&picture, PAGE_OK, room, told),
         Err(CommandFault::NoEvent) => put(&picture, PAGE_NO_EVENT, room, told),
         Err(CommandFault::BadLog) => put(&picture, PAGE_BAD_LOG, room, told),

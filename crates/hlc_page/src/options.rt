@@ -1,14 +1,15 @@
 // The options of the command line, as numbers.
 
-ghost use Rattle.std.specs.Prelude.{◌≡◌, ◌↔◌, IfSome, IsNone, IsSome};
+ghost use Rattle.std.specs.Prelude.{◌≡◌, ◌↔◌, IfSome, IsNone, IsSome, None};
 ghost use Rattle.hlc_core.specs.State.{new_refusal};
 ghost use Rattle.hlc_seeded.specs.Storm.{are_settings};
 ghost use Rattle.hlc_page.specs.Answer.{AreDrawingOf, AreRulesOf, IsFormOf, event_of, limit_of, line_of, receives_of, settings_of};
+ghost use Rattle.hlc_log_text.specs.declared.record_syntax.RecordSyntax.TheVariants.{Csv};
 
 use hlc_causality::Receives;
 use hlc_command_line::{DrawLogOptions, LogPart, LogRows};
 use hlc_log_audit::AuditRules;
-use hlc_log_text::{LogRules, PackedBits, StampForm};
+use hlc_log_text::{LogRules, PackedBits, RecordSyntax, StampForm};
 use hlc_stamp::{
     EventId, MAX_CAPACITY, MAX_NODES, MAX_STEPS, MIN_CAPACITY, MIN_NODES, MIN_STEPS, Settings,
 };
@@ -100,13 +101,17 @@ fn receives_of(number: u32) -> Receives
 
 // How the records of a log are read by these numbers.
 fn records(stamp_form: u32, tolerance: u64, receives: u32, unsent_local: bool) -> LogRules
+    ensures syntax { result.syntax ≡ Csv }
     ensures form { IsFormOf stamp_form result.form }
+    ensures units { result.units ≡ None }
     ensures tolerance { result.tolerance ≡ tolerance }
     ensures receives { result.receives ≡ receives_of receives }
     ensures unsent { result.unsent_local ≡ unsent_local }
 {
     LogRules {
+        syntax: RecordSyntax::Csv,
         form: form(stamp_form),
+        units: None,
         tolerance,
         receives: receives_of(receives),
         unsent_local,

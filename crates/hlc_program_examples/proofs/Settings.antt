@@ -38,8 +38,9 @@ is_run rows (order.Run settings) is = (settings, refl)
 is_run rows (order.Draw settings part) is = let name = is.0 in cc
 is_run rows (order.Trace settings vector) is = let name = is.0 in cc
 is_run rows order.Judge is = cc
-is_run rows (order.Audit options asked) is = let name = is.0 in cc
-is_run rows (order.DrawLog options) is = let name = is.0 in cc
+is_run rows (order.Audit options asked json) is = let name = is.0 in cc
+is_run rows (order.DrawLog options json) is = let name = is.0 in cc
+is_run rows (order.Vectors records json) is = let name = is.0 in cc
 is_run rows (order.Storm n k s) is = let name = is.0 in cc
 is_run rows (order.Threads n k s l) is = let name = is.0 in cc
 

@@ -8,7 +8,7 @@ use hlc_cli::CommandFault;
 use hlc_command_line::{DrawLogOptions, LogPart, LogRows};
 use hlc_csv::RecordsFault;
 use hlc_log_commands::draw_log_up_to;
-use hlc_log_text::{LogRules, StampForm};
+use hlc_log_text::{LogRules, RecordSyntax, StampForm};
 use std::alloc::Global;
 use std::process::Abort;
 
@@ -18,7 +18,9 @@ const LOG: &str = "local,a,10,10,0\nsend,a,11,11,0,m\nreceive,b,5,11,1,m\nlocal,
 // What is drawn if no option is given.
 const ALL_ROWS: DrawLogOptions = DrawLogOptions {
     records: LogRules {
+        syntax: RecordSyntax::Csv,
         form: StampForm::Pair,
+        units: None,
         tolerance: 0,
         receives: Receives::Tick,
         unsent_local: false,
@@ -37,7 +39,7 @@ fn is_drawn_up_to(rt: &impl Abort, alloc: Global, most: u32) -> bool
     requires { most ≤ MAX_CAPACITY }
 {
     let mut picture = Vec::new(alloc);
-    match draw_log_up_to(alloc, LOG.as_bytes(), &mut picture, ALL_ROWS, most) {
+    match draw_log_up_to(alloc, LOG.as_bytes(), &mut picture, ALL_ROWS, None, most) {
         Ok(()) => true,
         Err(fault) => {
             let is_told = matches!(fault, CommandFault::Records(RecordsFault::TooLong));

@@ -3,7 +3,7 @@
 use crate::comparisons::expect_at;
 use hlc_arena::ReserveFault;
 use hlc_cli::{CommandFault, Fault};
-use hlc_command_line::{LineFault, PartMistake};
+use hlc_command_line::{LineFault, PartMistake, RecordsMistake};
 use hlc_csv::{OutputFault, RecordsFault};
 use hlc_pages::{Bytes, INLINE_LEN};
 use hlc_picture::DrawFault;
@@ -93,9 +93,10 @@ static RECORDS_FAULTS: [(RecordsFault, &str); 4] = [
     (RecordsFault::Memory, "out of memory"),
 ];
 
-static COMMAND_FAULTS: [(CommandFault, &str); 11] = [
+static COMMAND_FAULTS: [(CommandFault, &str); 12] = [
     (CommandFault::NoEvent, "no such event"),
     (CommandFault::BadLog, "bad log"),
+    (CommandFault::EmptyLog, "no events"),
     (CommandFault::BrokenStamps, "broken stamps"),
     (CommandFault::OverLimit, "over the limit"),
     (CommandFault::Settings, "bad settings"),
@@ -159,6 +160,14 @@ fn expect_texts_of_lines(rt: &impl Abort, alloc: Global) {
             (
                 LineFault::Part(PartMistake::ChainAndRows),
                 "--only-chain takes no --from, --to or --around",
+            ),
+            (
+                LineFault::Records(RecordsMistake::WithoutJson),
+                "--field and --kind need --jsonl",
+            ),
+            (
+                LineFault::Records(RecordsMistake::UnitAlone),
+                "--reading-unit and --l-unit need one another",
             ),
             (LineFault::Memory, "out of memory"),
         ],

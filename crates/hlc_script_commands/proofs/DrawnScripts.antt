@@ -17,8 +17,8 @@ use Rattle.hlc_diagram.specs.declared.view.View.{View}
 use Rattle.hlc_text.specs.Run.{Finished, FinishedNoting}
 use Rattle.hlc_text.specs.declared.ran.Ran.{Ran}
 use Rattle.hlc_text.specs.declared.undelivered.Undelivered.{Undelivered as LeftUndelivered}
+use Rattle.hlc_command_fault.specs.declared.no_events.NoEvents.{NoEvents}
 use Rattle.hlc_script_commands.specs.NoEvents.{IsNoteOn, note_of}
-use Rattle.hlc_script_commands.specs.declared.no_events.NoEvents.{NoEvents}
 use Rattle.hlc_script_commands.specs.Drawn.{IsChainDrawn, IsChainDrawnWhole, IsChainDrawnWithout, IsDrawnWhole, IsDrawnWithout, IsScriptDrawn, LeavesHistory, LeavesUndelivered, pictured_message}
 
 -- a run to the end says which history its script leaves

@@ -14,11 +14,11 @@ ghost use Rattle.hlc_script_commands.specs.Drawn.{IsChainDrawnBut, IsChainDrawnW
 ghost use Rattle.hlc_script_commands.specs.NoEvents.{IsNoteOn};
 ghost use Rattle.hlc_script_commands.specs.TooLong.{IsScriptTooLong};
 
-use crate::no_events::{NoEvents, note_on};
+use crate::no_events::note_on;
 use crate::nowhere::Nowhere;
 use crate::script_stop::stop_of_text;
 use hlc_arena::Arena;
-use hlc_command_fault::CommandFault;
+use hlc_command_fault::{CommandFault, NoEvents};
 use hlc_csv::RecordsFault;
 use hlc_picture::{Undelivered, View, draw_chain, draw_with, is_missing};
 use hlc_stamp::{EventId, Settings};

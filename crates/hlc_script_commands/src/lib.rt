@@ -22,7 +22,6 @@ mod traced_script;
 
 pub use answered_script::run_script;
 pub use drawn_script::{draw_script, draw_script_chain};
-pub use hlc_command_fault::CommandFault;
-pub use no_events::NoEvents;
+pub use hlc_command_fault::{CommandFault, NoEvents};
 pub use printed_storm::print_storm;
 pub use traced_script::trace_script;

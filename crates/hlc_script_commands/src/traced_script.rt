@@ -10,9 +10,8 @@ ghost use Rattle.hlc_script_commands.specs.TooLong.{IsScriptTooLong};
 ghost use Rattle.hlc_script_commands.specs.Traced.{IsScriptTraced, trace_text};
 
 use crate::drawn_script::history_by_script;
-use crate::no_events::NoEvents;
 use hlc_arena::Arena;
-use hlc_command_fault::CommandFault;
+use hlc_command_fault::{CommandFault, NoEvents};
 use hlc_csv::{OutputFault, RecordsFault};
 use hlc_history_log::{write_log, write_vectors};
 use hlc_stamp::Settings;

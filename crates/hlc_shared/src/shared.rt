@@ -30,6 +30,14 @@ pub struct Shared<L: Group> {
     lock: Mutex<Held<L>>,
 }
 
+// Compares a seat's log with a copy of the history.
+fn compare_seat<L: Group>(alloc: Global, frozen: &Frozen<L>, seat: &Seat<L>) -> Result<(), LogFault>
+    ensures agrees { OnOk result (Agrees frozen.now.events seat.now.node seat.now.log) }
+    ensures refused { IfErr result (IsFaultOfFreeze L.nodes L.capacity L.limit seat.now) }
+{
+    compare_log(alloc, frozen.history(), seat.node(), seat.log())
+}
+
 impl<L: Group> Shared<L> {
     /// A cluster of so many nodes, whose history has no event and may get as many as `capacity`, and a seat for each
     /// node, in order, with an empty log. It has no drift limit.
@@ -176,9 +184,20 @@ impl<L: Group> Shared<L> {
         ensures agrees { IfOk result (λ frozen. Agrees frozen.events seat.now.node seat.now.log) }
         ensures refused { IfErr result (λ fault. IsFaultOfFreeze L.nodes L.capacity L.limit seat.now fault) }
     {
-        let frozen = self.lock.lock(rt).frozen(alloc)?;
-        compare_log(alloc, frozen.history(), seat.node(), seat.log())?;
-        Ok(frozen)
+        let frozen = self.frozen(rt, alloc)?;
+        match compare_seat(alloc, &frozen, seat) {
+            Ok(()) => Ok(frozen),
+            Err(fault) => {
+                // A history has many parts. To drop one is a function already, since a lock is dropped by one.
+                drop(frozen);
+                Err(fault)
+            }
+        }
+    }
+
+    // A copy of the history, for which the lock is held.
+    fn frozen<R: Wait>(&self, rt: &R, alloc: Global) -> Result<Frozen<L>, AllocError> {
+        self.lock.lock(rt).frozen(alloc)
     }
 
     /// Ends it all: gives back the history, and the logs by node, with which it was compared. The log of a node whose seat
@@ -196,7 +215,12 @@ impl<L: Group> Shared<L> {
         let Shared { lock } = self;
         let (history, logs) = lock.into_inner().gather(alloc, seats)?;
         let closed = Closed { history, logs };
-        compare_logs(alloc, &closed.history, &closed.logs)?;
-        Ok(closed)
+        match compare_logs(alloc, &closed.history, &closed.logs) {
+            Ok(()) => Ok(closed),
+            Err(fault) => {
+                drop(closed);
+                Err(fault)
+            }
+        }
     }
 }

@@ -1,8 +1,8 @@
 -- One more verdict of a trace is made.
-use Rattle.std.proofs.Common.{◌≡◌, ◌∙◌, ℕ, suc, ◌+◌, ◌<◌, ◌≤◌, List, [], ◌∷◌, ◌++◌, Option, Some, None, add-one, ap, append_assoc}
+use Rattle.std.proofs.Common.{◌≡◌, ◌≢◌, ◌∙◌, ℕ, suc, ◌+◌, ◌<◌, ◌≤◌, List, [], ◌∷◌, ◌++◌, Option, Some, None, add-one, ap, ap₂, append_assoc}
 use Rattle.std.proofs.Common.{arith, length, map, refl, set, slice_index_or, subst, sym, take}
 use Rattle.std.proofs.Math.Seq.{drop-cons}
-use Rattle.std.proofs.lemmas.List.{append-nil, drop_all, get_or_push, length-set, length-take, length_push, take_all, take_more_set}
+use Rattle.std.proofs.lemmas.List.{append-nil, drop_all, get_or_push, length-map, length-set, length-take, length_push, take_all, take_more_set}
 use Rattle.hlc_stamp.specs.Order.{Pair, zero_pair}
 use Rattle.hlc_stamp.specs.declared.id.EventId.{EventId}
 use Rattle.hlc_stamp.specs.declared.limits.TheConstants.{MAX_NODES}
@@ -16,10 +16,11 @@ use Rattle.hlc_causality.proofs.PlacesBelow.{length-places_below, place_at}
 use Rattle.hlc_causality.proofs.SamePrefix.{pairs_at_take}
 use Rattle.hlc_verdict.specs.declared.claim.Claim.{Claim}
 use Rattle.hlc_verdict.specs.declared.verdict.Verdict.{Verdict}
-use Rattle.hlc_verdict.specs.Trace.{IsSoundTrace, claim_at, trace_skeleton}
+use Rattle.hlc_causality.specs.Predecessors.{latest_before, previous_of}
+use Rattle.hlc_verdict.specs.Trace.{IsSoundAt, IsSoundTrace, claim_at, trace_skeleton}
 use Rattle.hlc_verdict.specs.Verdict.{AreVerdicts, verdict_of}
 use Rattle.hlc_verdict.specs.Verdicts.{IsUnderWay, NamesLatest, least_stamps, verdicts_from}
-use Rattle.hlc_verdict.proofs.Traces.{event_at_place, latest_with_next, length_trace}
+use Rattle.hlc_verdict.proofs.Traces.{event_at_place, latest_with_next, length_trace, within_told}
 
 module _ (claims : List Claim) where
   are_least : IsLeast (trace_skeleton claims) (least_stamps claims)
@@ -108,6 +109,41 @@ module _ (claims : List Claim) where
           so_far = subst (λ (n : ℕ). IsLeast (take n s) pushed) length_pushed is_least;
           room_for_all = let enough = h.room_for_all in omega arith;
         }
+
+-- the claim that is judged next, in a log that tells of claims
+module _ {A : Type 0} (claim_of : A → Claim) (log : List A) (last : List (Option EventId)) (least : List Pair) (room place : ℕ)
+    (is_place : place ≡ length least) (h : IsUnderWay (map claim_of log) last least room) (not_all : place ≢ length log) where
+  pub next_exists : place < length log
+  next_exists =
+      let size = length-map log claim_of in
+      let few = judged_are_claims (map claim_of log) last least room h in
+      omega (arith, not_all)
+
+  pub next_is_sound : IsSoundAt (map claim_of log) place
+  next_is_sound = h.sound place (within_told claim_of log place next_exists)
+
+  pub next_has_room : length least < room
+  next_has_room =
+      let exists = within_told claim_of log place next_exists in
+      let enough = h.room_for_all in
+      omega arith
+
+  pub next_before : IsLeast (take place (trace_skeleton (map claim_of log))) least
+  next_before = subst (λ (n : ℕ). IsLeast (take n (trace_skeleton (map claim_of log))) least) (sym is_place) h.so_far
+
+  -- what was read of it
+  module _ (claim : Claim) (is : claim ≡ claim_at (map claim_of log) place) where
+    pub next_node : claim.node.0 < MAX_NODES
+    next_node = subst (λ (x : Claim). x.node.0 < MAX_NODES) (sym is) next_is_sound.node
+
+    -- its previous event is named
+    pub next_previous : place_of (slice_index_or last claim.node.0 None) ≡ previous_of (trace_skeleton (map claim_of log)) place
+    next_previous =
+        let s = trace_skeleton (map claim_of log) in
+        let nodes = h.nodes in
+        let at_node : (skeleton_at s place).node ≡ claim.node.0 =
+        ap (λ (e : SkeletonEvent). e.node) (event_at_place (map claim_of log) place) ∙ ap (λ (x : Claim). x.node.0) (sym is) in
+        h.latest claim.node.0 (omega (arith, next_node)) ∙ ap₂ (latest_before s) (sym at_node) (sym is_place)
 
 -- some verdicts of a whole were told and written, and the others are left
 pub record IsWritten {V : Type 0} (told : Verdict → V) (whole left : List Verdict) (n : ℕ) (written : List V) : Type 0 where

@@ -46,17 +46,18 @@ impl<'a, C: AsClaim> Iterator for Verdicts<'a, C> {
     ghost remaining = { item_count (λ rest. rest) };
 
     fn next(&mut self) -> Option<Verdict> {
+        let claims = self.claims;
         let place = self.least.len();
-        if place == self.claims.len() {
+        if place == claims.len() {
             return None;
         }
-        let claim = claim_in(self.claims, place);
+        let claim = claim_in(claims, place);
         let node = claim.node.0 as usize;
         let previous = self.last[node];
         self.last[node] = Some(EventId(place as u32));
-        let stamp = least_stamp(self.claims, place, previous, &self.least);
+        let stamp = least_stamp(claims, place, previous, &self.least);
         self.least.push_reserved(stamp);
-        Some(verdict(self.claims, place, previous, stamp))
+        Some(verdict(claims, place, previous, stamp))
     }
 }
 

@@ -41,19 +41,19 @@ returns-in-Trace-clause-unread g c =
 
 pub returns-in-Audit-clause-done : goal.returns-in-Audit-clause-done
 returns-in-Audit-clause-done g c =
-    rw c.in-Audit.is (ok_unnoted c.audit_log.result _ _ c.unnoted-in-Audit.ensures (rw c.deref.ensures.value at c.audit_log.ensures.done))
+    rw c.in-Audit.is (rw c.deref.ensures.value at c.audit_log.ensures.done)
 
 pub returns-in-Audit-clause-noted : goal.returns-in-Audit-clause-noted
 returns-in-Audit-clause-noted g c =
-    rw c.in-Audit.is (has_no_note c.audit_log.result _ c.unnoted-in-Audit.ensures)
+    rw c.in-Audit.is c.audit_log.ensures.noted
 
 pub returns-in-Audit-clause-told : goal.returns-in-Audit-clause-told
 returns-in-Audit-clause-told g c =
-    rw c.in-Audit.is (err_unnoted c.audit_log.result _ _ _ (λ fault told. told) c.unnoted-in-Audit.ensures (rw c.deref.ensures.value at c.audit_log.ensures.told))
+    rw c.in-Audit.is (rw c.deref.ensures.value at c.audit_log.ensures.told)
 
 pub returns-in-Audit-clause-unread : goal.returns-in-Audit-clause-unread
 returns-in-Audit-clause-unread g c =
-    err_unnoted c.audit_log.result _ _ _ (λ fault unread input reads. unread input) c.unnoted-in-Audit.ensures c.audit_log.ensures.unread
+    if_err c.audit_log.result _ _ (λ fault unread input reads. unread input) c.audit_log.ensures.unread
 
 pub returns-in-DrawLog-clause-done : goal.returns-in-DrawLog-clause-done
 returns-in-DrawLog-clause-done g c =
@@ -70,6 +70,22 @@ returns-in-DrawLog-clause-told g c =
 pub returns-in-DrawLog-clause-unread : goal.returns-in-DrawLog-clause-unread
 returns-in-DrawLog-clause-unread g c =
     err_unnoted c.draw_log.result _ _ _ (λ fault unread input reads. unread input) c.unnoted-in-DrawLog.ensures c.draw_log.ensures.unread
+
+pub returns-in-Vectors-clause-done : goal.returns-in-Vectors-clause-done
+returns-in-Vectors-clause-done g c =
+    rw c.in-Vectors.is (ok_unnoted c.vectors_of_log.result _ _ c.unnoted-in-Vectors.ensures c.vectors_of_log.ensures.done)
+
+pub returns-in-Vectors-clause-noted : goal.returns-in-Vectors-clause-noted
+returns-in-Vectors-clause-noted g c =
+    rw c.in-Vectors.is (has_no_note c.vectors_of_log.result _ c.unnoted-in-Vectors.ensures)
+
+pub returns-in-Vectors-clause-told : goal.returns-in-Vectors-clause-told
+returns-in-Vectors-clause-told g c =
+    rw c.in-Vectors.is (err_unnoted c.vectors_of_log.result _ _ _ (λ fault told. told) c.unnoted-in-Vectors.ensures c.vectors_of_log.ensures.told)
+
+pub returns-in-Vectors-clause-unread : goal.returns-in-Vectors-clause-unread
+returns-in-Vectors-clause-unread g c =
+    err_unnoted c.vectors_of_log.result _ _ _ (λ fault unread input reads. unread input) c.unnoted-in-Vectors.ensures c.vectors_of_log.ensures.unread
 
 pub returns-in-Storm-clause-done : goal.returns-in-Storm-clause-done
 returns-in-Storm-clause-done g c =

@@ -31,6 +31,10 @@ pub draw_log_order-requires : goal.draw_log_order-requires
 draw_log_order-requires c =
     let has = subst (λ (n : Text). HasOptions n (rows_of (found_of c.args.options.now))) c.in-text.is c.requires in has
 
+pub vectors_order-requires : goal.vectors_order-requires
+vectors_order-requires c =
+    let has = subst (λ (n : Text). HasOptions n (rows_of (found_of c.args.options.now))) c.in-vectors.is c.requires in has
+
 pub seeded_numbers-nodes-requires : goal.seeded_numbers-nodes-requires
 seeded_numbers-nodes-requires c =
     let has = subst (λ (n : Text). HasOptions n (rows_of (found_of c.args.options.now))) c.in-storm.is c.requires in has
@@ -61,6 +65,16 @@ returns-in-text-clause-mistaken c =
     subst (λ (n : Text). IfErr c.draw_log_order.result (UnlessMemory (IsMistakeOf n (rows_of (found_of c.args.options.now))))) (sym c.in-text.is)
     c.draw_log_order.ensures.mistaken
 
+pub returns-in-vectors-clause-found : goal.returns-in-vectors-clause-found
+returns-in-vectors-clause-found c =
+    subst (λ (n : Text). IfOk c.vectors_order.result (IsOrderOf n (rows_of (found_of c.args.options.now)))) (sym c.in-vectors.is)
+    c.vectors_order.ensures.found
+
+pub returns-in-vectors-clause-mistaken : goal.returns-in-vectors-clause-mistaken
+returns-in-vectors-clause-mistaken c =
+    subst (λ (n : Text). IfErr c.vectors_order.result (UnlessMemory (IsMistakeOf n (rows_of (found_of c.args.options.now))))) (sym c.in-vectors.is)
+    c.vectors_order.ensures.mistaken
+
 pub returns-in-audit-clause-found : goal.returns-in-audit-clause-found
 returns-in-audit-clause-found c =
     subst (λ (n : Text). IfOk c.audit_order.result (IsOrderOf n (rows_of (found_of c.args.options.now)))) (sym c.in-audit.is)
@@ -86,4 +100,5 @@ returns-in-storm-clause-found c = (c.in-storm.is, c.seeded_numbers-nodes.ensures
 pub unreachable-requires : goal.unreachable-requires
 unreachable-requires c =
     let d = c.in_default in
-    no_other _ subcommands c.args.name.now c.requires (d.not-run, (d.not-draw, (d.not-trace, (d.not-judge, (d.not-audit, (d.not-text, (d.not-storm, (d.not-threads, tt))))))))
+    no_other _ subcommands c.args.name.now c.requires
+    (d.not-run, (d.not-draw, (d.not-trace, (d.not-judge, (d.not-audit, (d.not-text, (d.not-vectors, (d.not-storm, (d.not-threads, tt)))))))))

@@ -19,6 +19,9 @@ returns-in-Audit c = rw c.in-Audit.is refl
 pub returns-in-DrawLog : goal.returns-in-DrawLog
 returns-in-DrawLog c = rw c.in-DrawLog.is refl
 
+pub returns-in-Vectors : goal.returns-in-Vectors
+returns-in-Vectors c = rw c.in-Vectors.is refl
+
 pub returns-in-Storm : goal.returns-in-Storm
 returns-in-Storm c = rw c.in-Storm.is refl
 

@@ -25,7 +25,7 @@ returns g c =
     let limit = c.args.rules.limit in
     let report = c.in_ok-push_report.ensures in
     let unsent = unsent_row c.unsent.result in
-    let missing = missing_rows c.ordered-ordered.result.now.events in
+    let missing = missing_rows c.ordered-ordered.result.now.events c.skipped.result in
     let before = adds_joined _ _ _ _ _ _ (report.0 ++ unsent) missing
     (adds_joined _ _ _ _ _ _ report.0 unsent report.2 c.in_ok-push_unsent.ensures) c.in_ok-push_missing.ensures in
     let told : true ≡ is_reported c.args.rules (all_asked log.questions c.args.asked.now) =
@@ -34,12 +34,12 @@ returns g c =
     on_ok_weaker c.push_overs.result (λ last.
     let rows = ((report.0 ++ unsent) ++ missing) ++ last.0 in (
       rows,
-      subst (λ (told : Bool). IsReportIf told log.nodes log.log log.full log.unsent limit rows) told (
+      subst (λ (told : Bool). IsReportIf told log.nodes log.log log.full log.unsent log.skipped limit rows) told (
         report.0,
         last.0,
         report.1,
         last.1,
-        λ i. ((report.0 ++ unsent_row (c.unsent.ensures i)) ++ missing_rows (ordered i).events) ++ last.0,
+        λ i. ((report.0 ++ unsent_row (c.unsent.ensures i)) ++ missing_rows (ordered i).events (c.skipped.ensures i)) ++ last.0,
       ),
       adds_joined _ _ _ _ _ _ ((report.0 ++ unsent) ++ missing) last.0 before last.2,
     )) c.push_overs.ensures

@@ -1,4 +1,4 @@
-use Rattle.std.proofs.Common.{◌≡◌, ◌++◌}
+use Rattle.std.proofs.Common.{◌≡◌, ◌++◌, arith}
 use Rattle.std.proofs.lemmas.List.{take-append-drop}
 use Rattle.std.proofs.lemmas.Result.{err_from_is_err_and}
 use Rattle.hlc_shared.proofs.Halves.{halves}
@@ -21,3 +21,18 @@ returns g t c =
     let whole : c.split_off.new.self.items ++ c.in_ok-back.back.items ≡ c.args.jobs.items =
     rw (c.in_ok-back.ensures.items, c.in_ok-back.ensures.tail) (take-append-drop _ _) in
     rw whole at c.scoped.ensures.1
+
+pub scope-there-returns : goal.scope-there-returns
+scope-there-returns g t c = c.run_jobs.ensures
+
+pub scope-returns-in_default : goal.scope-returns-in_default
+scope-returns-in_default g t c = tt
+
+pub run_last-requires : goal.run_last-requires
+run_last-requires g t c = omega (arith, c.len.ensures, c.if-len-lt2.true)
+
+pub returns-then-len-lt2 : goal.returns-then-len-lt2
+returns-then-len-lt2 g t c = c.run_last.ensures
+
+pub split_off-requires : goal.split_off-requires
+split_off-requires g t c = omega (arith, c.len-half.ensures)

@@ -1,4 +1,4 @@
-use Rattle.std.proofs.Common.{◌≡◌, ◌∙◌, Err, ap, map, sym}
+use Rattle.std.proofs.Common.{◌≡◌, ◌∙◌, Err, ap, map, refl, sym}
 use Rattle.std.proofs.lemmas.List.{length-map}
 use Rattle.std.proofs.lemmas.Result.{err_from_is_err_and}
 use Rattle.hlc_verdict.specs.declared.audit_fault.AuditFault.{AuditFault}
@@ -26,3 +26,15 @@ write_verdicts-requires g c = record {
       let size = length-map c.args.claims.now g.C.AsClaim.claim_of in
       c.requires.one_each ∙ sym size ∙ sym (length_verdicts claims c.in_ok-left.left c.in_ok-left.ensures.verdicts);
 }
+
+pub returns-in_err-left-clause-verdicts : goal.returns-in_err-left-clause-verdicts
+returns-in_err-left-clause-verdicts g c = let from = err_from_is_err_and c.from_residual.result c.from_residual.ensures.1 in rw from.1 tt
+
+pub returns-in_err-left-clause-sound : goal.returns-in_err-left-clause-sound
+returns-in_err-left-clause-sound g c = let from = err_from_is_err_and c.from_residual.result c.from_residual.ensures.1 in rw from.1 tt
+
+pub returns-in_err-left-clause-faults : goal.returns-in_err-left-clause-faults
+returns-in_err-left-clause-faults g c = let from = err_from_is_err_and c.from_residual.result c.from_residual.ensures.1 in rw (from.1, from.2) c.in_err-left.ensures.faults
+
+pub returns-in_err-left-clause-unchanged : goal.returns-in_err-left-clause-unchanged
+returns-in_err-left-clause-unchanged g c = let from = err_from_is_err_and c.from_residual.result c.from_residual.ensures.1 in rw from.1 refl

@@ -32,6 +32,7 @@ returns-in_default c items lines h =
       line = old.line;
       columns = old.columns;
       hints = c.number_node.new.hints;
+      skipped = old.skipped;
     } in (
       subst (λ (names : List (List ℕ)). MAX_NODES < length names) names over.0,
       subst (λ (nodes : List (List ℕ)). IsPartialLog items lines (now nodes)) (sym over.1) (record {
@@ -45,6 +46,7 @@ returns-in_default c items lines h =
         columns = h.columns;
         last = h.last;
         senders = h.senders;
+        skipped = h.skipped;
       }),
     )
 
@@ -98,6 +100,7 @@ returns c items lines h =
       line = c.args.line;
       columns = c.args.self.now.columns;
       hints = c.number_node.new.hints;
+      skipped = c.args.self.now.skipped;
     } in
     is_reading-more items lines c.args.self.now new (named c) (event c) h record {
       pushed = c.in_ok-push.ensures.events;
@@ -114,4 +117,5 @@ returns c items lines h =
       line = refl;
       next = c.requires.line;
       columns = refl;
+      skipped = refl;
     }

@@ -1,6 +1,8 @@
 use Rattle.std.proofs.Common.{refl}
+use Rattle.hlc_log_text.specs.LogItem.{Asks}
+use Rattle.hlc_log_text.specs.Question.{plain_asked}
 use Rattle.hlc_log_text.specs.declared.partial_log.PartialLog.{PartialLog}
-use Rattle.hlc_log_text.proofs.LogFacts.{is_asking-more}
+use Rattle.hlc_log_text.proofs.LogFacts.{asked_all, is_aside-more, skipped_kept}
 use Rattle.hlc_log_text.proofs.partial_log.PartialLog.ask.Goals as goal
 
 pub returns : goal.returns
@@ -16,14 +18,19 @@ returns c items lines h =
       line = c.args.line;
       columns = old.columns;
       hints = old.hints;
+      skipped = old.skipped;
     } in
-    is_asking-more items lines old new c.args.question h record {
+    is_aside-more items lines old new (Asks (plain_asked c.args.question)) h record {
       log = refl;
       nodes = refl;
       messages = refl;
       labels = refl;
       senders = refl;
-      questions = c.in_ok-push.ensures.items;
+      questions = asked_all items lines old new c.args.question h c.in_ok-push.ensures.items;
       next = c.requires;
       columns = refl;
+      skipped = skipped_kept items lines old new c.args.question h c.args.line;
+      no_event = refl;
+      no_columns = refl;
+      tells_nothing = refl;
     }

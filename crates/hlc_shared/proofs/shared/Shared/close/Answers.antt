@@ -50,36 +50,36 @@ fault_of_seats nodes capacity limit seats h log (Mismatch node) kept same p = (
 )
 fault_of_seats nodes capacity limit seats h log Memory kept same p = tt
 
-pub returns-clause-history : goal.returns-clause-history
-returns-clause-history g c =
+pub returns-in-Ok-clause-history : goal.returns-in-Ok-clause-history
+returns-in-Ok-clause-history g c =
     let kept = c.gather.ensures in
     kept_history g.L.Group.nodes g.L.Group.capacity g.L.Group.limit c.args.seats.items c.into_inner.result (history_of c.in_ok-history.history)
     c.in_ok-history.ensures.history kept.sound kept.nodes kept.capacity kept.limit (λ all. c.in_ok-history.ensures.counted (c.args.seats.ok.0 ∙ all))
 
-pub returns-clause-one_each : goal.returns-clause-one_each
-returns-clause-one_each g c = c.in_ok-history.ensures.one_each ∙ c.gather.ensures.nodes
+pub returns-in-Ok-clause-one_each : goal.returns-in-Ok-clause-one_each
+returns-in-Ok-clause-one_each g c = c.in_ok-history.ensures.one_each ∙ c.gather.ensures.nodes
 
-pub returns-clause-logs : goal.returns-clause-logs
-returns-clause-logs g c = c.in_ok-history.ensures.logs
+pub returns-in-Ok-clause-logs : goal.returns-in-Ok-clause-logs
+returns-in-Ok-clause-logs g c = c.in_ok-history.ensures.logs
 
-pub returns-clause-agree : goal.returns-clause-agree
-returns-clause-agree g c = λ node below.
+pub returns-in-Ok-clause-agree : goal.returns-in-Ok-clause-agree
+returns-in-Ok-clause-agree g c = λ node below.
     let nodes : c.in_ok-history.history.nodes ≡ g.L.Group.nodes =
     ap (λ (h : History). h.nodes) c.in_ok-history.ensures.history ∙ c.gather.ensures.nodes in
     let log : log_at c.deref.result.now node ≡ log_of_node c.args.seats.items node =
     ap (λ (logs : List (Vec Logged Global)). log_at logs node) c.deref.ensures.value ∙ c.in_ok-history.ensures.logs node in
-    subst (Agrees c.in_ok-history.history.events node) log (c.in_ok-compare_logs.ensures.agree node (subst (λ (n : ℕ). node < n) (sym nodes) below))
+    subst (Agrees c.in_ok-history.history.events node) log (c.in-Ok.ensures.agree node (subst (λ (n : ℕ). node < n) (sym nodes) below))
 
 pub returns-in_err-history : goal.returns-in_err-history
 returns-in_err-history g c =
     let from = err_from_is_err_and c.from_residual.result c.from_residual.ensures.1 in
     rw (from.1, from.2) record { history = tt; one_each = tt; logs = tt; agree = tt; refused = tt }
 
-pub returns-in_err-compare_logs : goal.returns-in_err-compare_logs
-returns-in_err-compare_logs g c =
+pub returns-in-Err : goal.returns-in-Err
+returns-in-Err g c =
     let h : History = (history_of c.in_ok-history.history) in
     let gathered = c.gather.ensures in
-    let fault = c.in_err-compare_logs.field-0.0 in
+    let fault = c.in-Err.fault in
     let kept = kept_history g.L.Group.nodes g.L.Group.capacity g.L.Group.limit c.args.seats.items c.into_inner.result h
     c.in_ok-history.ensures.history gathered.sound gathered.nodes gathered.capacity gathered.limit
     (λ all. c.in_ok-history.ensures.counted (c.args.seats.ok.0 ∙ all)) in
@@ -87,8 +87,7 @@ returns-in_err-compare_logs g c =
     ap (λ (logs : List (Vec Logged Global)). log_at logs node) c.deref.ensures.value ∙ c.in_ok-history.ensures.logs node in
     let nodes : h.nodes ≡ g.L.Group.nodes = ap (λ (k : History). k.nodes) c.in_ok-history.ensures.history ∙ gathered.nodes in
     let compared =
-    subst (λ (n : ℕ). IsFaultOfLogs h.events n (log_at c.deref.result.now) fault) nodes c.in_err-compare_logs.ensures.refused in
+    subst (λ (n : ℕ). IsFaultOfLogs h.events n (log_at c.deref.result.now) fault) nodes c.in-Err.ensures.refused in
     let closes : IsFaultOfClose g.L.Group.nodes g.L.Group.capacity g.L.Group.limit c.args.seats.items fault =
     fault_of_seats g.L.Group.nodes g.L.Group.capacity g.L.Group.limit c.args.seats.items h (log_at c.deref.result.now) fault kept same compared in
-    let from = err_from_is_err_and c.from_residual-in_err-compare_logs.result c.from_residual-in_err-compare_logs.ensures.1 in
-    rw (from.1, from.2) record { history = tt; one_each = tt; logs = tt; agree = tt; refused = closes }
+    record { history = tt; one_each = tt; logs = tt; agree = tt; refused = closes }

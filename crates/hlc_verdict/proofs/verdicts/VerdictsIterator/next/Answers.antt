@@ -4,17 +4,87 @@ use Rattle.hlc_stamp.specs.Order.{Pair}
 use Rattle.hlc_causality.specs.Assignment.{IsLeast}
 use Rattle.hlc_verdict.specs.declared.claim.Claim.{Claim}
 use Rattle.hlc_verdict.specs.Trace.{trace_skeleton}
-use Rattle.hlc_verdict.proofs.OneMoreVerdict.{judged_are_claims, none_left, under_way-next, verdict_is_next}
+use Rattle.hlc_verdict.proofs.OneMoreVerdict.{next_before, next_exists, next_has_room, next_is_sound, next_node, next_previous, none_left, under_way-next, verdict_is_next}
 use Rattle.hlc_verdict.proofs.verdicts.VerdictsIterator.next.Goals as goal
 
-pub returns-then-place-self-clause-steps : goal.returns-then-place-self-clause-steps
-returns-then-place-self-clause-steps g c =
+pub returns-then-place-claims-clause-steps : goal.returns-then-place-claims-clause-steps
+returns-then-place-claims-clause-steps g c =
     let i = c.self.inside in
     let claims = map g.C.AsClaim.claim_of i.claims.now in
     let size = length-map i.claims.now g.C.AsClaim.claim_of in
-    let all : length i.least.items ≡ length claims = sym i.least.ok.0 ∙ sym c.len-place.ensures ∙ c.if-place-self.true ∙ sym size in
+    let all : length i.least.items ≡ length claims = sym i.least.ok.0 ∙ sym c.len-place.ensures ∙ c.if-place-claims.true ∙ sym size in
     let none : c.args.self.now ≡ [] = sym c.self.view_is ∙ none_left claims (length i.least.items) all in
     (none, none)
+
+-- the claim that comes next, and what is known of it
+pub claim_in-claim-requires : goal.claim_in-claim-requires
+claim_in-claim-requires g c =
+    let i = c.self.inside in
+    next_exists g.C.AsClaim.claim_of i.claims.now i.last i.least.items _ c.len-place.result (c.len-place.ensures ∙ i.least.ok.0)
+    c.self.invariant c.if-place-claims.false
+
+pub bounds-self-inside-node : goal.bounds-self-inside-node
+bounds-self-inside-node g c =
+    let i = c.self.inside in
+    next_node g.C.AsClaim.claim_of i.claims.now i.last i.least.items _ c.len-place.result (c.len-place.ensures ∙ i.least.ok.0)
+    c.self.invariant c.if-place-claims.false c.claim_in-claim.result c.claim_in-claim.ensures
+
+pub overflow_cast-self : goal.overflow_cast-self
+overflow_cast-self g c =
+    let i = c.self.inside in
+    let sound = next_is_sound g.C.AsClaim.claim_of i.claims.now i.last i.least.items _ c.len-place.result (c.len-place.ensures ∙ i.least.ok.0)
+    c.self.invariant c.if-place-claims.false in
+    omega (arith, sound.few)
+
+pub least_stamp-stamp-requires-clause-exists : goal.least_stamp-stamp-requires-clause-exists
+least_stamp-stamp-requires-clause-exists g c =
+    let i = c.self.inside in
+    next_exists g.C.AsClaim.claim_of i.claims.now i.last i.least.items _ c.len-place.result (c.len-place.ensures ∙ i.least.ok.0)
+    c.self.invariant c.if-place-claims.false
+
+pub least_stamp-stamp-requires-clause-sound : goal.least_stamp-stamp-requires-clause-sound
+least_stamp-stamp-requires-clause-sound g c =
+    let i = c.self.inside in
+    next_is_sound g.C.AsClaim.claim_of i.claims.now i.last i.least.items _ c.len-place.result (c.len-place.ensures ∙ i.least.ok.0)
+    c.self.invariant c.if-place-claims.false
+
+pub least_stamp-stamp-requires-clause-previous : goal.least_stamp-stamp-requires-clause-previous
+least_stamp-stamp-requires-clause-previous g c =
+    let i = c.self.inside in
+    next_previous g.C.AsClaim.claim_of i.claims.now i.last i.least.items _ c.len-place.result (c.len-place.ensures ∙ i.least.ok.0)
+    c.self.invariant c.if-place-claims.false c.claim_in-claim.result c.claim_in-claim.ensures
+
+pub least_stamp-stamp-requires-clause-before : goal.least_stamp-stamp-requires-clause-before
+least_stamp-stamp-requires-clause-before g c =
+    let i = c.self.inside in
+    subst (IsLeast (take c.len-place.result (trace_skeleton (map g.C.AsClaim.claim_of i.claims.now)))) (sym c.deref.ensures.value)
+    (next_before g.C.AsClaim.claim_of i.claims.now i.last i.least.items _ c.len-place.result (c.len-place.ensures ∙ i.least.ok.0)
+    c.self.invariant c.if-place-claims.false)
+
+pub push_reserved-requires : goal.push_reserved-requires
+push_reserved-requires g c =
+    let i = c.self.inside in
+    let room = next_has_room g.C.AsClaim.claim_of i.claims.now i.last i.least.items _ c.len-place.result (c.len-place.ensures ∙ i.least.ok.0)
+    c.self.invariant c.if-place-claims.false in
+    omega (arith, room, i.least.ok.0)
+
+pub verdict-requires-clause-exists : goal.verdict-requires-clause-exists
+verdict-requires-clause-exists g c =
+    let i = c.self.inside in
+    next_exists g.C.AsClaim.claim_of i.claims.now i.last i.least.items _ c.len-place.result (c.len-place.ensures ∙ i.least.ok.0)
+    c.self.invariant c.if-place-claims.false
+
+pub verdict-requires-clause-sound : goal.verdict-requires-clause-sound
+verdict-requires-clause-sound g c =
+    let i = c.self.inside in
+    next_is_sound g.C.AsClaim.claim_of i.claims.now i.last i.least.items _ c.len-place.result (c.len-place.ensures ∙ i.least.ok.0)
+    c.self.invariant c.if-place-claims.false
+
+pub verdict-requires-clause-previous : goal.verdict-requires-clause-previous
+verdict-requires-clause-previous g c =
+    let i = c.self.inside in
+    next_previous g.C.AsClaim.claim_of i.claims.now i.last i.least.items _ c.len-place.result (c.len-place.ensures ∙ i.least.ok.0)
+    c.self.invariant c.if-place-claims.false c.claim_in-claim.result c.claim_in-claim.ensures
 
 -- the place of the claim that is judged
 is_place : (g : _) (c : goal.After-verdict g) → c.len-place.result ≡ length c.self.inside.least.items
@@ -43,8 +113,8 @@ returns-clause-steps g c =
     let claims = map g.C.AsClaim.claim_of i.claims.now in
     let place = c.len-place.result in
     let size = length-map i.claims.now g.C.AsClaim.claim_of in
-    let few = judged_are_claims claims i.last i.least.items _ c.self.invariant in
-    let exists : place < length claims = omega (arith, is_place g c, c.if-place-self.false) in
+    let next = next_exists g.C.AsClaim.claim_of i.claims.now i.last i.least.items _ place (is_place g c) c.self.invariant c.if-place-claims.false in
+    let exists : place < length claims = omega arith in
     sym c.self.view_is
     ∙ verdict_is_next claims i.least.items _ c.least_stamp-stamp.result place (is_place g c) c.push_reserved.ensures.items (is_least g c)
     c.verdict.result exists c.verdict.ensures

@@ -1,0 +1,9 @@
+pub mod EventRow
+pub mod FieldText
+pub mod JsonReader
+pub mod JsonRules
+pub mod Laws
+pub mod Lines
+pub mod LogInput
+pub mod Paths
+pub mod Rules

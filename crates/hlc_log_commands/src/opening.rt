@@ -1,0 +1,66 @@
+// A log that is opened, or told of.
+
+ghost use Rattle.std.specs.Prelude.{◌≡◌, ◌≤◌, IfErr, IfOk, IsErrOf, OnOk};
+ghost use Rattle.hlc_stamp.specs.declared.limits.TheConstants.{MAX_CAPACITY};
+ghost use Rattle.hlc_log_text.specs.ReadLog.{HasTooMany};
+ghost use Rattle.hlc_open_log.specs.Opened.{IsOpened};
+ghost use Rattle.hlc_open_log.specs.Unopened.{ExplainsOpenFault};
+ghost use Rattle.hlc_command_fault.specs.Fault.{IsOfAnswer, IsOfInput};
+ghost use Rattle.hlc_log_commands.specs.Records.{records_in};
+ghost use Rattle.hlc_log_commands.specs.Unopened.{IsUnopened};
+
+use hlc_command_fault::CommandFault;
+use hlc_csv::RecordsFault;
+use hlc_json_lines::{JsonRules, LogInput};
+use hlc_log_text::LogRules;
+use hlc_open_log::{OpenFault, OpenLog, open_log, tell_bad};
+use std::alloc::Global;
+use std::io::{Read, Write};
+
+// Opens a log of at most so many records, in records or in lines of JSON.
+fn open_records<I: Read + Drop>(
+    alloc: Global,
+    reader: I,
+    rules: LogRules,
+    json: Option<JsonRules>,
+    most: u32,
+) -> Result<OpenLog, OpenFault>
+    requires { most ≤ MAX_CAPACITY }
+    ensures opened { IfOk result (IsOpened rules most (records_in json (I.remaining reader))) }
+    ensures fault { IfErr result (ExplainsOpenFault rules most (records_in json (I.remaining reader))) }
+{
+    match LogInput::new(alloc, reader, json) {
+        Ok(input) => open_log(alloc, input, rules, most),
+        Err(_) => Err(OpenFault::Memory),
+    }
+}
+
+/// Opens a log of at most so many records, as `open_records` does. If the input is no log, the row that an audit writes about it is written.
+pub(crate) fn open_or_tell<I: Read + Drop, O: Write>(
+    alloc: Global,
+    reader: I,
+    writer: &mut O,
+    rules: LogRules,
+    json: Option<JsonRules>,
+    most: u32,
+) -> Result<OpenLog, CommandFault>
+    requires { most ≤ MAX_CAPACITY }
+    ensures opened { IfOk result (IsOpened rules most (records_in json (I.remaining reader))) }
+    ensures nothing { OnOk result (writer.new ≡ writer.old) }
+    ensures told { IfErr result (λ fault. IsOfAnswer fault → IsUnopened most fault rules
+        (records_in json (I.remaining reader)) (O.contents writer.old) (O.contents writer.new)) }
+    ensures unread { IfErr result (λ fault. IsOfInput fault → writer.new ≡ writer.old) }
+    ensures too_long { IsErrOf result (CommandFault.Records RecordsFault.TooLong)
+        → HasTooMany rules most (records_in json (I.remaining reader)) }
+{
+    match open_records(alloc, reader, rules, json, most) {
+        Ok(log) => Ok(log),
+        Err(OpenFault::Bad(bad)) => {
+            tell_bad(alloc, bad, writer)?;
+            Err(CommandFault::BadLog)
+        }
+        Err(OpenFault::Read) => Err(CommandFault::Records(RecordsFault::Read)),
+        Err(OpenFault::TooLong) => Err(CommandFault::Records(RecordsFault::TooLong)),
+        Err(OpenFault::Memory) => Err(CommandFault::Records(RecordsFault::Memory)),
+    }
+}

@@ -1,0 +1,3 @@
+pub mod EventRow
+pub mod LogVectors
+pub mod NodeText
