@@ -167,7 +167,7 @@ def json_object(line):
         json.dumps(found, ensure_ascii=False, default=lambda number: 0).encode()
     except (ValueError, RecursionError):
         return {}
-    return found if isinstance(found, dict) and depth(found) <= 128 else {}
+    return found if isinstance(found, dict) and depth(found) <= 127 else {}
 
 
 def depth(found):
