@@ -5,6 +5,6 @@ use crate::outcome::Outcome;
 pub struct Audited {
     /// What it found.
     pub outcome: Outcome,
-    /// How many events the log has, and 0 if the input is none.
+    /// How many events the log has. Of input that is no log nothing is promised here.
     pub events: u32,
 }
