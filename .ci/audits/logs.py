@@ -210,6 +210,37 @@ def small(rng, form, receives=model.TICK, restarts=0, carries=0, untold=0, sende
     return lists
 
 
+def retried(rng, form, lists):
+    """The same records, and some sends again: later at the same node or anywhere at another one, with the same stamp or one after it. Some of the
+    receives that tell what their message carried tell such a stamp."""
+    again, told = [], {}
+    for node, records in enumerate(lists):
+        for place, fields in enumerate(records):
+            message = fields[3 + form.width : 4 + form.width]
+            while fields[0] == b"send" and message != [b""] and rng.random() < 0.3:
+                other = node if rng.random() < 0.7 else rng.randrange(len(lists))
+                first = place + 1 if other == node else 0
+                of_stamp = fields[3 : 3 + form.width]
+                if rng.random() < 0.7:
+                    of_stamp = stamp_fields(form, follow(form, 0, form.stamp(of_stamp)))
+                again.append((other, rng.randrange(first, len(lists[other]) + 1), [fields[2], *of_stamp, *message]))
+                told.setdefault(message[0], []).append(of_stamp)
+    called = [next((fields[1] for fields in records), b"nobody") for records in lists]
+    lists = [[copied(fields) for fields in records] for records in lists]
+    for fields in (fields for records in lists for fields in records if carried_by(fields) and rng.random() < 0.5):
+        fields.carried = rng.choice(told.get(fields[3 + form.width], [fields.carried]))
+    for node, place, rest in sorted(again, key=lambda one: one[:2], reverse=True):
+        lists[node].insert(place, Record([b"send", called[node], *rest]))
+    return lists
+
+
+def copied(fields):
+    """The same record, by itself."""
+    record = Record(fields)
+    record.carried, record.sender = carried_by(fields), sender_of(fields)
+    return record
+
+
 def carried_by(fields):
     """The fields of what a record's message carried, if it tells that."""
     return getattr(fields, "carried", ())
@@ -336,6 +367,13 @@ def as_json(rng, form, records, spoils=False):
         if path[1:].split(".") not in paths.values():
             paths[name] = path[1:].split(".")
             fields.append(f"{name}={path}")
+    # (those of the events of one word, by the word and the column)
+    of_word = {}
+    for name in rng.sample([*paths], rng.randrange(4)):
+        word, path = rng.choice(model.KINDS), ["of", name]
+        if name != "kind":
+            of_word[word, name] = path
+            fields.insert(rng.randrange(len(fields) + 1) if f"{name}" not in {text.split("=")[0] for text in fields} else len(fields), f"{word.decode()}.{name}=.of.{name}")
     told = rng.random() < 0.7
     if told:
         kinds = [f"{word.decode()}={','.join(values)}" for word, values in KIND_VALUES.items()]
@@ -350,7 +388,7 @@ def as_json(rng, form, records, spoils=False):
         for name, value in values_of(rng, form, record, told).items():
             if spoils and rng.random() < 0.02:
                 value = rng.choice((None, True, -1, 1.5, 0, 2**64, [], {}, {"x": 1}, "", "x" * 257, 10**300, "9" * 30))
-            put(found, paths[name], value)
+            put(found, of_word.get((record[0], name), paths[name]), value)
         lines.append(json.dumps(found, ensure_ascii=rng.random() < 0.5).encode())
         if rng.random() < 0.05:
             lines[-1] = b"\xef\xbb\xbf " + lines[-1] + b"\r"
@@ -468,10 +506,20 @@ def spoil_what_is_told(rng, form, lists):
             fields.carried = () if how > 4 else fields.carried
 
 
-def crowd(rng, form, nodes):
-    """A record of each of many nodes, and a second of some."""
-    order = [*range(nodes)] + [rng.randrange(nodes) for _ in range(10)]
-    return [[[b"local", b"n%d" % node, b"%d" % (10 + place), *stamp_fields(form, (10 + place, 0))]] for place, node in enumerate(order)]
+def crowd(rng, form, nodes, messages):
+    """The records of each of many nodes: all have an event, and so many messages go between them, half of them between a few."""
+    skew, few = [rng.randrange(10) for _ in range(nodes)], rng.sample(range(nodes), 4)
+    events, lists, last, sent = [(b"local", node, ()) for node in range(nodes)], [[] for _ in range(nodes)], [(0, 0)] * nodes, {}
+    for number in range(messages):
+        among, message = few if number % 2 else range(nodes), (b"m%d" % number,)
+        events += [(b"send", rng.choice(among), message), (b"receive", rng.choice(among), message)]
+    for place, (word, node, message) in enumerate(events):
+        reading = 10 + place + skew[node]
+        last[node] = follow(form, reading, last[node], *((sent[message],) if word == b"receive" else ()))
+        if word == b"send":
+            sent[message] = last[node]
+        lists[node].append(Record([word, b"n%d" % node, b"%d" % reading, *stamp_fields(form, last[node]), *message]))
+    return lists
 
 
 # A cluster

@@ -1,8 +1,8 @@
 #!/usr/bin/env python3
 """A model of `hlc audit`, written from docs/FORMATS.md and not from the code.
 
-    .ci/audits/model.py [--packed B] [--dotted] [--tolerance D] [--receives RULE] [--unsent local] [--strict] [--limit D]
-        [--jsonl [--field NAME=PATH].. [--kind WORD=VALUE,..]..] [--reading-unit UNIT --l-unit UNIT] < LOG
+    .ci/audits/model.py [--packed B] [--dotted] [--tolerance D] [--receives RULE] [--unsent local] [--resent WHICH] [--lenient] [--strict]
+        [--limit D] [--jsonl [--field NAME=PATH].. [--kind WORD=VALUE,..]..] [--reading-unit UNIT --l-unit UNIT] < LOG
 
 It reads a log as bytes, and writes the report and ends with the status that the program has to have. It is plain and slow: each row is made
 from the events, their direct predecessors and the least stamps, as the document says it, and nothing is kept beside them.
@@ -19,14 +19,15 @@ import sys
 FULL = 2**32 - 1
 # The greatest C of a floor that an event has of its own.
 MOST_FLOOR_C = 2**31 - 1
-MOST_NODES, LONGEST_NAME = 64, 256
+MOST_NODES, LONGEST_NAME = 65_535, 256
 MOST_READING, MOST_NUMBER = 2**63 - 1, 2**64 - 1
 KINDS = (b"local", b"send", b"receive", b"restart")
 # Those that have a message.
 NAMED = (b"send", b"receive")
 # What a clock does at a receive.
 RECEIVES = TICK, MERGE, MERGE_CLOCK = "tick", "merge", "merge-clock"
-
+# Which send of a message that is sent again a receive is of.
+RESENT = FIRST, LAST = "first", "last"
 
 # The columns of a log of JSON lines, in the places that they have in its records.
 COLUMNS = (b"kind", b"node", b"reading", b"l", b"c", b"stamp", b"message", b"from", b"carried", b"carried_l", b"carried_c", b"label")
@@ -104,11 +105,13 @@ class Json:
     """Which value of a line is the field of a column, by its path, and which word a value of `kind` means."""
 
     def __init__(self, fields=(), kinds=()):
-        self.paths = {name: [name.decode()] for name in COLUMNS}
+        # (those that were given, with the word of their events or none)
+        self.given = []
         self.words = {}
         for text in fields:
             name, path = os.fsdecode(text).split("=", 1)
-            self.paths[name.encode()] = path.split(".")[1:]
+            word, _, name = name.rpartition(".")
+            self.given.append((word.encode(), name.encode(), path.split(".")[1:]))
         for text in kinds:
             word, values = os.fsencode(text).split(b"=", 1)
             for value in values.split(b","):
@@ -125,19 +128,24 @@ class Json:
 
     def record(self, found):
         """The record that tells what an object does, if that tells of an event."""
-        fields = {name: self.field(found, name) for name in COLUMNS}
-        fields[b"kind"] = self.words.get(fields[b"kind"])
-        if fields[b"kind"] is None:
+        word = self.words.get(self.field(found, b"", b"kind"))
+        if word is None:
             return [b"skipped"]
+        fields = {name: self.field(found, word, name) for name in COLUMNS}
+        fields[b"kind"] = word
         for whole, l, c in ((b"stamp", b"l", b"c"), (b"carried", b"carried_l", b"carried_c")):
             fields[whole] = fields[whole].split(b"/")[0].replace(b":", b".", 1)
             if not fields[l] and not fields[c]:
                 fields[l], _, fields[c] = fields[whole].partition(b".")
         return [*fields.values()]
 
-    def field(self, found, name):
-        """The text of the value at the path of a column."""
-        for key in self.paths[name]:
+    def field(self, found, word, name):
+        """The text of the value at the path of a column of the events of a word."""
+        path = [name.decode()]
+        for given, column, keys in self.given:
+            if column == name and given in (b"", word):
+                path = keys
+        for key in path:
             found = found.get(key) if isinstance(found, dict) else None
         if isinstance(found, str):
             return found.encode().replace(b"\\", b"\\\\").replace(b"\n", b"\\n").replace(b"\r", b"\\r")
@@ -215,6 +223,11 @@ class Form:
         return None if l is None or c is None else (l, c)
 
 
+def worst(columns, fields):
+    """The column of a stamp that is no good: of two, that of C if L is a number."""
+    return columns[-1] if len(columns) == 1 or number(fields[0]) is not None else columns[0]
+
+
 class Event:
     """What a record tells of, with the node by its place among the names, and its direct predecessors. What it claims is None if the log tells
     no stamp; its stamp is then the one that it is given."""
@@ -244,23 +257,17 @@ class Event:
 class Log:
     """The events of a text in the order of the lines, the names of its nodes, and the questions among the records."""
 
-    def __init__(self, text, form, unsent_local=False, questions=False, tolerance=0, receives=TICK, json=None, units=None):
-        self.tolerance, self.units, self.skipped = tolerance, units, []
+    def __init__(self, text, form, unsent_local=False, questions=False, tolerance=0, receives=TICK, json=None, units=None, resent=None, lenient=False):
+        self.tolerance, self.units, self.skipped, self.left_out, self.resent = tolerance, units, [], [], 0
         self.form, self.events, self.nodes, self.questions, self.unsent, self.header = form, [], {}, [], 0, COLUMNS if json else None
         for place, (line, fields) in enumerate(json.records(text) if json else records(text)):
-            if json and fields[0] in KINDS:
-                self.look_for_all(line, dict(zip(COLUMNS, fields)))
-            if place == 0 and fields[0] == b"kind":
-                self.take_header(line, fields)
-            elif fields == [b"skipped"]:
-                self.skipped.append(line)
-            elif fields[0] == b"skipped":
-                raise Bad(line, "fields")
-            elif questions and fields[0] in QUESTIONS:
-                self.questions.append(question(line, fields))
-            else:
-                self.events.append(self.event(line, *(self.in_place(line, fields) if self.header else (fields, ()))))
-        self.link(unsent_local)
+            try:
+                self.take(place, line, fields, json, questions)
+            except Bad as bad:
+                if not lenient or bad.why[0] == "header":
+                    raise
+                self.left_out.append((bad.why[0], line))
+        self.link(unsent_local, resent)
         for event in self.events:
             event.keep(receives)
         self.order = self.causal_order()
@@ -268,6 +275,21 @@ class Log:
             if event.claim is None:
                 event.stamp = given_stamp(event)
         self.give_least_stamps()
+
+    def take(self, place, line, fields, json, questions):
+        """Takes in a record."""
+        if json and fields[0] in KINDS:
+            self.look_for_all(line, dict(zip(COLUMNS, fields)))
+        if place == 0 and fields[0] == b"kind":
+            self.take_header(line, fields)
+        elif fields == [b"skipped"]:
+            self.skipped.append(line)
+        elif fields[0] == b"skipped":
+            raise Bad(line, "fields")
+        elif questions and fields[0] in QUESTIONS:
+            self.questions.append(question(line, fields))
+        else:
+            self.events.append(self.event(line, *(self.in_place(line, fields) if self.header else (fields, ()))))
 
     def look_for_all(self, line, under):
         """Looks whether a record of JSON lines has what its event needs, and names the first column that it lacks."""
@@ -329,21 +351,22 @@ class Log:
         of_stamp = fields[3 : 3 + self.form.width]
         reading, stamp = self.read(fields[2]), self.form.stamp(of_stamp)
         has_stamp = fields[0] != b"receive" or any(of_stamp)
-        if fields[2] and not reading or has_stamp and stamp is None:
-            raise Bad(line, "number")
+        if fields[2] and not reading:
+            raise Bad(line, "number", b"reading")
+        if has_stamp and stamp is None or fields[0] == b"restart" and stamp[1] > MOST_FLOOR_C:
+            raise Bad(line, "number", worst(self.form.columns, of_stamp))
         if fields[0] == b"restart":
             reading = None
-            if stamp[1] > MOST_FLOOR_C:
-                raise Bad(line, "number")
         brought = self.form.stamp(carried) if any(carried) else None
         if any(carried) and (brought is None or brought[1] >= MOST_FLOOR_C) or sender and brought is None:
-            raise Bad(line, "number")
+            raise Bad(line, "number", worst(self.form.carried_columns, carried))
         message = fields[least - 1] if named else None
-        names = [fields[1]]
+        names = {b"node": fields[1]}
         if named and not self.is_nameless(fields[0], message):
-            names.append(message or sender)
-        if not all(1 <= len(name) <= LONGEST_NAME for name in names):
-            raise Bad(line, "name")
+            names[b"from" if sender else b"message"] = message or sender
+        for column, name in names.items():
+            if not 1 <= len(name) <= LONGEST_NAME:
+                raise Bad(line, "name", column)
         if fields[1] not in self.nodes and len(self.nodes) == MOST_NODES:
             raise Bad(line, "node")
         node = self.nodes.setdefault(fields[1], len(self.nodes))
@@ -354,22 +377,25 @@ class Log:
         """Whether a record is a send whose message has no name, as under a header with a column for the senders."""
         return word == b"send" and message == b"" and self.header is not None and b"from" in self.header[1:]
 
-    def link(self, unsent_local):
+    def link(self, unsent_local, resent):
         """Finds each event's direct predecessors."""
         last, sends, first = {}, {}, {}
         for event in self.events:
             event.before, last[event.node] = last.get(event.node), event
             if event.kind == b"send":
                 if event.message in sends:
-                    raise Bad(event.line, "sent-twice")
+                    if not resent:
+                        raise Bad(event.line, "sent-twice")
+                    self.resent += 1
                 if event.message:
-                    sends[event.message] = event
+                    sends.setdefault(event.message, []).append(event)
                 first.setdefault((event.node, event.stamp), event)
         for event in self.events:
             if event.kind == b"receive":
                 # (a node that no event has sends nothing)
                 by_node = first.get((self.nodes.get(event.sender), event.carried))
-                event.sent = by_node if event.sender else sends.get(event.message)
+                message = by_node and by_node.message if event.sender else event.message
+                event.sent = send_of(event, sends[message], resent) if message in sends else by_node if event.sender else None
                 if event.sent is None and event.carried is not None:
                     event.kind = b"outside"
                 elif event.sent is None and not unsent_local:
@@ -407,6 +433,13 @@ class Log:
 
 
 # What is said of an event
+
+
+def send_of(event, sends, resent):
+    """The send that a receive is of, among those of its message."""
+    claimed = [send for send in sends if send.claim == event.carried]
+    before = [send for send in sends if send.line < event.line]
+    return (claimed or (before[::-1] if resent == LAST else []) or sends)[0]
 
 
 def predecessors(event):
@@ -513,7 +546,7 @@ def drift_at(event):
 VERDICTS = ("behind", "not-above", "low", "least", "ahead", "carried")
 
 
-def report(log, unsent_local=False, limit=None):
+def report(log, unsent_local=False, resent=None, limit=None):
     """The rows of the report."""
     names, full = [*log.nodes], log.form.full
     counts = collections.Counter(verdict(event, full) for event in log.events if event.claim)
@@ -532,6 +565,8 @@ def report(log, unsent_local=False, limit=None):
     yield from (row("skew", names[sender], names[receiver], *shown) for (receiver, sender), shown in sorted(skews(log).items()))
     if unsent_local:
         yield row("unsent", log.unsent)
+    if resent:
+        yield row("resent", log.resent)
     outside = sum(event.kind == b"outside" for event in log.events)
     if outside:
         yield row("outside", outside)
@@ -543,6 +578,10 @@ def report(log, unsent_local=False, limit=None):
         yield row("unstamped", unstamped)
     if log.skipped:
         yield row("skipped", len(log.skipped), log.skipped[0])
+    for word in ("word", "fields", "number", "name", "node", "field"):
+        lines = [line for why, line in log.left_out if why == word]
+        if lines:
+            yield row("left-out", word, len(lines), lines[0])
     for name, events in zip(names, of_nodes):
         over = [event for event in events if limit is not None and claimed_ahead(event) > limit]
         if over:
@@ -695,6 +734,7 @@ def audit(
     tolerance=None,
     receives=None,
     unsent=None,
+    resent=None,
     strict=False,
     limit=None,
     questions=False,
@@ -705,17 +745,18 @@ def audit(
     kind=(),
     reading_unit=None,
     l_unit=None,
+    lenient=False,
 ):
     """What the program writes of a text, what it says to standard error, and its status."""
     units, json_lines = (reading_unit, l_unit) if l_unit else None, Json(field, kind) if jsonl else None
     try:
-        log = Log(text, Form(packed, dotted), unsent == "local", questions, tolerance or 0, receives or TICK, json_lines, units)
+        log = Log(text, Form(packed, dotted), unsent == "local", questions, tolerance or 0, receives or TICK, json_lines, units, resent, lenient)
         asked = log.questions + [question(0, fields) for given in ask for _, fields in records(given)]
     except Bad as bad:
         return row("bad", bad.line, *bad.why), b"hlc: bad log\n", 4
     rows = b"".join(answers(log, asked))
     if not asked or with_report:
-        rows = b"".join(report(log, unsent == "local", limit)) + rows
+        rows = b"".join(report(log, unsent == "local", resent, limit)) + rows
     if strict and broken(log):
         return rows, b"hlc: broken stamps\n", 3
     if limit is not None and over_limit(log, limit):
@@ -732,11 +773,13 @@ def main():
     line.add_argument("--tolerance", type=int)
     line.add_argument("--receives", choices=RECEIVES)
     line.add_argument("--unsent", choices=["local"])
+    line.add_argument("--resent", choices=RESENT)
     line.add_argument("--strict", action="store_true")
     line.add_argument("--limit", type=int)
     line.add_argument("--questions", action="store_true", help="answer the questions among the records")
     line.add_argument("--ask", action="append", default=[], type=os.fsencode)
     line.add_argument("--report", action="store_true", dest="with_report")
+    line.add_argument("--lenient", action="store_true")
     line.add_argument("--jsonl", action="store_true")
     line.add_argument("--field", action="append", default=[], type=os.fsencode)
     line.add_argument("--kind", action="append", default=[], type=os.fsencode)

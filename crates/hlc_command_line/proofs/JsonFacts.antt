@@ -1,18 +1,18 @@
 -- What `--field` and `--kind` say.
-use Rattle.std.proofs.Common.{◌≡◌, ◌∙◌, Bool, true, List, [], ◌∷◌, ◌++◌, Option, Some, None, ap, append_assoc, is_some, map, refl, sym}
-use Rattle.std.specs.Prelude.{option_map}
+use Rattle.std.proofs.Common.{◌≡◌, ◌∙◌, ℕ, Bool, true, false, List, [], ◌∷◌, ◌++◌, Option, Some, None, ap, append_assoc, is_some, map, refl, sym}
+use Rattle.std.specs.Prelude.{option_map, slice_get}
 use Rattle.std.specs.Borrow.{Bor}
 use Rattle.std.proofs.lemmas.List.{map_push}
 use Rattle.clap.specs.Matches.{matched_of, raw_values}
 use Rattle.clap.specs.Walk.{Row, Text, all_of, rows_of, texts}
 use Rattle.clap.specs.declared.parser.matches.Found.{Found}
 use Rattle.clap.proofs.WalkLemmas.{raw_values-rows}
-use Rattle.hlc_log_text.specs.declared.log_column.LogColumn.{LogColumn}
+use Rattle.hlc_json_lines.specs.declared.field_name.FieldName.{FieldName}
 use Rattle.hlc_log_text.specs.declared.log_word.LogWord.{LogWord}
 use Rattle.hlc_json_lines.specs.Paths.{Key}
 use Rattle.hlc_json_lines.specs.Rules.{Rules, field_of_text, kind_of_text, no_rules, with_field, with_kind}
 use Rattle.hlc_command_line.specs.Asked.{texts_of_option}
-use Rattle.hlc_command_line.specs.JsonOptions.{AddKinds, AddPaths, AreJsonRules, IsNoKind, IsNoPath, field, kind}
+use Rattle.hlc_command_line.specs.JsonOptions.{AddKinds, AddPaths, AreJsonRules, IsNoKind, IsNoPath, LacksMeaning, field, kind}
 use Rattle.hlc_command_line.specs.Line.{IsRulesMistake, UnlessMemory}
 use Rattle.hlc_command_line.specs.declared.line_fault.LineFault.{LineFault}
 use Rattle.hlc_command_line.specs.declared.line_fault.LineFault.TheVariants as fault
@@ -30,14 +30,14 @@ module _ (texts : List Text) (old before after : Rules) (text : Text) (taken : B
       → AddPaths (texts ++ text ∷ []) old after
   path_added adds told is = go (field_of_text text) refl (sym told ∙ yes) is
     where
-      go : (o : Option (LogColumn × List Key)) → field_of_text text ≡ o → is_some o ≡ true → after ≡ with_field before o → AddPaths (texts ++ text ∷ []) old after
+      go : (o : Option (FieldName × List Key)) → field_of_text text ≡ o → is_some o ≡ true → after ≡ with_field before o → AddPaths (texts ++ text ∷ []) old after
       go None e some is = absurd cc
       go (Some path) e some is = record {
         paths = adds.paths ++ path ∷ [];
         meant = meant_push field_of_text texts text adds.paths path adds.meant e;
         added =
             is ∙ ap (λ (r : Rules). record r { paths = r.paths ++ path ∷ [] }) adds.added
-            ∙ ap (λ (paths : List (LogColumn × List Key)). record old { paths = paths }) (append_assoc old.paths adds.paths (path ∷ []));
+            ∙ ap (λ (paths : List (FieldName × List Key)). record old { paths = paths }) (append_assoc old.paths adds.paths (path ∷ []));
       }
 
   -- the values of a word more
@@ -64,9 +64,18 @@ rules_are rows old between new none paths values =
     let kinds_only : new.kinds ≡ values.kinds =
     ap (λ (r : Rules). r.kinds) values.added ∙ ap (λ (r : Rules). r.kinds ++ values.kinds) (paths.added ∙ ap (λ (r : Rules). record r { paths = r.paths ++ paths.paths }) none) in
     record {
-      paths_are = paths.meant ∙ ap (λ (xs : List (LogColumn × List Key)). map Some xs) (sym paths_only);
+      paths_are = paths.meant ∙ ap (λ (xs : List (FieldName × List Key)). map Some xs) (sym paths_only);
       kinds_are = values.meant ∙ ap (λ (xs : List (LogWord × List Text)). map Some xs) (sym kinds_only);
     }
+
+-- one of the texts names no path
+pub lacks_path : (all : List Text) (place : ℕ) (text : Text) (taken : Bool) → taken ≡ is_some (field_of_text text) → taken ≡ false
+    → slice_get all place ≡ Some text → LacksMeaning field_of_text all
+lacks_path all place text taken told refused given = record { place = place; text = text; given = given; nothing = none (field_of_text text) (sym told ∙ refused) }
+  where
+    none : (o : Option (FieldName × List Key)) → is_some o ≡ false → o ≡ None
+    none None is = refl
+    none (Some path) is = absurd cc
 
 -- a text that means nothing is a mistake
 pub no_path : (rows : List Row) (f : LineFault) → IsNoPath (texts_of_option rows field) f → UnlessMemory (IsRulesMistake rows) f

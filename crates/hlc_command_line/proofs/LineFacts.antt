@@ -91,11 +91,11 @@ line_is_orderly =
     ) in
     let trace : IsOrderly subcommand_trace =
     ((refl, nodes_are_numbers), ((refl, capacity_is_number), ((refl, limit_is_number), ((refl, tt), tt)))) in
-    let audit : IsOrderly subcommand_audit = ((refl, packed_is_number), ((refl, tt), ((refl, tolerance_is_number), ((refl, tt), ((refl, tt), ((refl, tt), ((refl, tt), ((refl, tt), ((refl, tt), ((refl, tt), ((refl, tt), ((refl, limit_is_number), ((refl, tt), ((refl, tt), tt)))))))))))))) in
-    let draw_log : IsOrderly subcommand_draw_log = ((refl, packed_is_number), ((refl, tt), ((refl, tolerance_is_number), ((refl, tt), ((refl, tt), ((refl, tt), ((refl, tt), ((refl, tt), ((refl, tt), ((refl, tt), ((refl, positive_is_number explained_line.name), ((refl, positive_is_number first_line.name), ((refl, positive_is_number last_line.name), ((refl, positive_is_number around_line.name), ((refl, positive_is_number rows_around.name), ((refl, tt), tt)))))))))))))))) in
+    let audit : IsOrderly subcommand_audit = ((refl, packed_is_number), ((refl, tt), ((refl, tolerance_is_number), ((refl, tt), ((refl, tt), ((refl, tt), ((refl, tt), ((refl, tt), ((refl, tt), ((refl, tt), ((refl, tt), ((refl, tt), ((refl, tt), ((refl, limit_is_number), ((refl, tt), ((refl, tt), tt)))))))))))))))) in
+    let draw_log : IsOrderly subcommand_draw_log = ((refl, packed_is_number), ((refl, tt), ((refl, tolerance_is_number), ((refl, tt), ((refl, tt), ((refl, tt), ((refl, tt), ((refl, tt), ((refl, tt), ((refl, tt), ((refl, tt), ((refl, tt), ((refl, positive_is_number explained_line.name), ((refl, positive_is_number first_line.name), ((refl, positive_is_number last_line.name), ((refl, positive_is_number around_line.name), ((refl, positive_is_number rows_around.name), ((refl, tt), tt)))))))))))))))))) in
     let vectors : IsOrderly subcommand_vectors = (
       (refl, packed_is_number),
-      ((refl, tt), ((refl, tolerance_is_number), ((refl, tt), ((refl, tt), ((refl, tt), ((refl, tt), ((refl, tt), ((refl, tt), ((refl, tt), tt))))))))),
+      ((refl, tt), ((refl, tolerance_is_number), ((refl, tt), ((refl, tt), ((refl, tt), ((refl, tt), ((refl, tt), ((refl, tt), ((refl, tt), ((refl, tt), ((refl, tt), tt))))))))))),
     ) in
     let storm : IsOrderly subcommand_storm = ((refl, nodes_are_numbers), ((refl, steps_are_numbers), ((refl, seed_is_number), tt))) in
     let threads : IsOrderly subcommand_threads =
@@ -155,11 +155,11 @@ each_unsigned rows (n, (c, (l, (k, (s, (e, (f, (t, (a, (r, (p, (d, none)))))))))
       (
         tt,
         (
-          (p, (tt, (d, (tt, (tt, (tt, (tt, (tt, (tt, (tt, (tt, (l, (tt, (tt, tt)))))))))))))),
+          (p, (tt, (d, (tt, (tt, (tt, (tt, (tt, (tt, (tt, (tt, (tt, (tt, (l, (tt, (tt, tt)))))))))))))))),
           (
-            (p, (tt, (d, (tt, (tt, (tt, (tt, (tt, (tt, (tt, (e, (f, (t, (a, (r, (tt, tt)))))))))))))))),
+            (p, (tt, (d, (tt, (tt, (tt, (tt, (tt, (tt, (tt, (tt, (tt, (e, (f, (t, (a, (r, (tt, tt)))))))))))))))))),
             (
-              (p, (tt, (d, (tt, (tt, (tt, (tt, (tt, (tt, (tt, tt)))))))))),
+              (p, (tt, (d, (tt, (tt, (tt, (tt, (tt, (tt, (tt, (tt, (tt, tt)))))))))))),
               ((n, (k, (s, tt))), ((n, (k, (s, (l, tt)))), tt)),
             ),
           ),

@@ -14,3 +14,4 @@ units_mistaken rows mistake.Kind is = absurd is
 units_mistaken rows mistake.UnitAlone is = is
 units_mistaken rows mistake.ReadingUnit is = is
 units_mistaken rows mistake.LUnit is = is
+units_mistaken rows mistake.Resent is = absurd is

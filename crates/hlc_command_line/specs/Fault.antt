@@ -23,6 +23,7 @@ records_mistake_text mistake.Kind = codes "--kind takes WORD=VALUE,VALUE.., as s
 records_mistake_text mistake.UnitAlone = codes "--reading-unit and --l-unit need one another"
 records_mistake_text mistake.ReadingUnit = codes "--reading-unit takes `s`, `ms`, `us` or `ns`"
 records_mistake_text mistake.LUnit = codes "--l-unit takes `s`, `ms`, `us`, `ns` or `ntp64`"
+records_mistake_text mistake.Resent = codes "--resent takes `first` or `last`"
 
 -- what a fault says; of arguments that clap refuses, the words are clap's
 abbrev pub line_fault_text : LineFault → Option (List ℕ)
@@ -32,7 +33,7 @@ line_fault_text fault.Forms = Some (codes "--packed and --dotted are two forms o
 line_fault_text fault.Unsent = Some (codes "--unsent takes only the word `local`")
 line_fault_text fault.Receives = Some (codes "--receives takes `tick`, `merge` or `merge-clock`")
 line_fault_text (fault.Sign option) = Some (codes "--" ++ option.now ++ codes " takes a whole number without a sign")
-line_fault_text fault.Question = Some (codes "--ask takes a question of a log")
+line_fault_text fault.Question = Some (codes "--ask takes a question of a log: explain,LINE, check,LINE,LINE.., relation,LINE,LINE, influenced,LINE, drift,NODE, claimed,LINE or event,LINE")
 line_fault_text (fault.Part m) = Some (part_mistake_text m)
 line_fault_text (fault.Records m) = Some (records_mistake_text m)
 line_fault_text fault.Memory = Some (codes "out of memory")

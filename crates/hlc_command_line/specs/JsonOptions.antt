@@ -1,7 +1,7 @@
 -- How lines of JSON are read, by `--jsonl`, `--field` and `--kind`.
 use Rattle.std.specs.Prelude.{◌≡◌, ◌||◌, ⊤, ◌++◌, ℕ, Bool, List, None, Option, Some, codes, false, is_some, map, slice_get, true}
 use Rattle.clap.specs.Words.{Row, Text, all_of}
-use Rattle.hlc_log_text.specs.declared.log_column.LogColumn.{LogColumn}
+use Rattle.hlc_json_lines.specs.declared.field_name.FieldName.{FieldName}
 use Rattle.hlc_log_text.specs.declared.log_word.LogWord.{LogWord}
 use Rattle.hlc_log_text.specs.declared.record_syntax.RecordSyntax.{RecordSyntax}
 use Rattle.hlc_log_text.specs.declared.record_syntax.RecordSyntax.TheVariants.{Csv, JsonLines}
@@ -40,7 +40,7 @@ pub record LacksMeaning {T : Type 0} (meaning : Text → Option T) (texts : List
 
 -- the texts add the paths that they mean, in their order
 pub record AddPaths (texts : List Text) (old new : Rules) : Type 0 where
-  pub paths : List (LogColumn × List Key)
+  pub paths : List (FieldName × List Key)
   pub meant : map field_of_text texts ≡ map Some paths
   pub added : new ≡ record old { paths = old.paths ++ paths }
 

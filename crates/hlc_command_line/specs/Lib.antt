@@ -7,4 +7,5 @@ pub mod Subcommand
 pub mod JsonOptions
 pub mod UnitOptions
 pub mod Line
+pub mod ResentOption
 pub mod Rules

@@ -11,6 +11,8 @@ use Rattle.hlc_stamp.specs.declared.limits.TheConstants.{MAX_CAPACITY, MAX_DRIFT
 use Rattle.hlc_stamp.specs.declared.settings.Settings.{Settings}
 use Rattle.hlc_causality.specs.declared.receives.Receives.{Receives}
 use Rattle.hlc_causality.specs.declared.receives.Receives.TheVariants as at_receives
+use Rattle.hlc_log_text.specs.declared.fault_rule.FaultRule.{FaultRule}
+use Rattle.hlc_log_text.specs.declared.fault_rule.FaultRule.TheVariants.{First, LeaveOut}
 use Rattle.hlc_log_text.specs.declared.log_rules.LogRules.{LogRules}
 use Rattle.hlc_log_text.specs.declared.stamp_form.StampForm.{StampForm}
 use Rattle.hlc_log_text.specs.declared.stamp_form.StampForm.TheVariants.{Dotted, Packed, Pair}
@@ -19,6 +21,7 @@ use Rattle.hlc_command_line.specs.Asked.{AreAsked, AsksNothing, ask, texts_of_op
 use Rattle.hlc_command_line.specs.JsonOptions.{IsJsonOf, IsSyntaxOf, LacksMeaning, field, is_json_given, jsonl, kind}
 use Rattle.hlc_command_line.specs.LineOption.{HaveOptions, HaveUnlessSigned, IsFlagOf, IsOtherWord, IsWordOf, LineOption, flag, many, number, word}
 use Rattle.hlc_command_line.specs.NumberOption.{IsGiven, IsLeftOut, IsNumberOf, IsOptionalNumber, IsSignedAmong, NumberOption, optional, signed_option, unsigned_option}
+use Rattle.hlc_command_line.specs.ResentOption.{IsNoResent, IsResentOf, resent}
 use Rattle.hlc_command_line.specs.Rules.{program_app}
 use Rattle.hlc_command_line.specs.Subcommand.{Subcommand, app_of_subcommand}
 use Rattle.hlc_command_line.specs.UnitOptions.{AreUnitsOf, IsUnitsMistake, l_unit, reading_unit}
@@ -119,6 +122,9 @@ receives_word at_receives.MergeClock = codes "merge-clock"
 abbrev pub unsent : Text
 unsent = codes "unsent"
 
+abbrev pub lenient : Text
+lenient = codes "lenient"
+
 abbrev pub strict : Text
 strict = codes "strict"
 
@@ -151,8 +157,8 @@ subcommand_judge = record { name = codes "judge"; options = [] }
 -- how the records of a log are read
 abbrev pub record_options : List LineOption
 record_options =
-    number packed ∷ flag dotted ∷ number tolerance ∷ word receives ∷ word unsent ∷ flag jsonl ∷ many field ∷ many kind ∷ word reading_unit
-    ∷ word l_unit ∷ []
+    number packed ∷ flag dotted ∷ number tolerance ∷ word receives ∷ word unsent ∷ word resent ∷ flag lenient ∷ flag jsonl ∷ many field ∷ many kind
+    ∷ word reading_unit ∷ word l_unit ∷ []
 
 -- how a log is read and audited
 abbrev pub log_options : List LineOption
@@ -263,20 +269,29 @@ IsReceivesOf rows given = unwrap_or (first_of receives rows) (codes "tick") ≡ 
 abbrev pub IsNoReceives : List Row → Type 0
 IsNoReceives rows = (text : Text) × (first_of receives rows ≡ Some text) × ((given : Receives) → text ≢ receives_word given)
 
+-- bad records are left out just if `--lenient` was given
+abbrev pub IsFaultRuleOf : List Row → FaultRule → Type 0
+IsFaultRuleOf rows First = IsFlagOf rows lenient false
+IsFaultRuleOf rows LeaveOut = IsFlagOf rows lenient true
+
 -- how records are read is what was given: readings are exact if no tolerance is
 pub record AreLogRules (rows : List Row) (given : LogRules) : Type 0 where
   pub form_is : IsFormOf rows given.form
   pub tolerance_is : IsNumberOr rows tolerance 0 given.tolerance
   pub receives_are : IsReceivesOf rows given.receives
   pub unsent_is : IsWordOf rows unsent (codes "local") given.unsent_local
+  pub resent_is : IsResentOf rows given.resent
+  pub faults_are : IsFaultRuleOf rows given.faults
   pub syntax_is : IsSyntaxOf rows given.syntax
   pub units_are : AreUnitsOf rows given.units
 
--- what of how records are read no order says: `--field` or `--kind` is given without `--jsonl`, or with a text that says none; or there are no units
+-- what of how records are read no order says: `--field` or `--kind` is given without `--jsonl`, or with a text that says none; or `--resent` with a word
+-- other than `first` and `last`; or there are no units
 abbrev pub IsRecordsMistake : List Row → RecordsMistake → Type 0
 IsRecordsMistake rows mistake.WithoutJson = IsFlagOf rows jsonl false × (is_json_given rows ≡ true)
 IsRecordsMistake rows mistake.Field = LacksMeaning field_of_text (texts_of_option rows field)
 IsRecordsMistake rows mistake.Kind = LacksMeaning kind_of_text (texts_of_option rows kind)
+IsRecordsMistake rows mistake.Resent = IsNoResent rows
 IsRecordsMistake rows m = IsUnitsMistake (first_of reading_unit rows) (first_of l_unit rows) m
 
 -- no rules say how records are read: stamps have two forms, or `--receives` has another word than `tick`, `merge` and `merge-clock`, or `--unsent`

@@ -104,9 +104,11 @@ it names the columns: `node`, `reading`, `l` and `c` or `stamp`, `message` and `
 message carried, in `carried_l` and `carried_c`, or `carried`; then no record need send the message. It may name the node that sent, in
 `from`, in place of the message, and a send may then leave `message` empty. With `--tolerance D` a reading
 above L by at most D is taken as L, and one farther above as D less. With `--receives merge` a clock that receives takes the greater of
-its stamp and the message's, and isn't read; with `merge-clock` it is read as well.
+its stamp and the message's, and isn't read; with `merge-clock` it is read as well. With `--resent first` or `--resent last` a message
+may be sent again: each send after the first then counts as one of a message of its own.
 
-With `--jsonl` each line is a JSON object, and a column is its value of that name: `l` is at `.l`, unless `--field l=.hlc.l` says where else.
+With `--jsonl` each line is a JSON object, and a column is its value of that name: `l` is at `.l`, unless `--field l=.hlc.l` says where else,
+or `--field send.l=.hlc.l` does for the events of a word.
 A line whose `kind` is none of these words is left out, unless `--kind send=posted,sent` says that it means one. With `--reading-unit ms
 --l-unit ns` readings are in another unit of time than L: s, ms, us or ns; and L may be in ntp64, as uhlc's is with `--packed 4`.
 
@@ -121,14 +123,17 @@ The answer has these rows, with lines counted from 1:
   messages,SENT,RECEIVED,REPEATED,OPEN
   skew,FROM,TO,AHEAD,SEND,RECEIVE    how far a send of FROM read ahead of its receive by TO at most, and their lines
   unsent,N                           with `--unsent local`, so many receives were taken as local events
+  resent,N                           with `--resent WHICH`, so many sends sent a message that an earlier line sends
   outside,N                          so many receives tell what was carried by a message that no record sends, if there are some
   unread,N                           so many events have no reading, if there are some
   unstamped,N                        so many receives have no stamp, if there are some
   skipped,N,LINE                     so many records were left out, if there are some, and the first line of them
+  left-out,WORD,N,LINE               with `--lenient`, so many bad records were, by the word of their fault, and the first line of them
   over,NODE,N,LINE,AHEAD,ORIGIN      with `--limit D`, N events claim an L more than D above their reading: the first line of them, and
                                      how far the furthest is ahead, and the line where that L came in
-If the input is no log, the answer is the one row `bad,LINE,WHY`, and the status is 4; an object lacks a column if it is
-`bad,LINE,field,NAME`. If the log has no event, a line on standard error says so, and with `--strict` the status is 4.
+If the input is no log, the answer is the one row `bad,LINE,WHY`, and the status is 4; a column that an object lacks, or that is badly
+written, is named besides. With `--lenient` bad records are left out, but for a header, and for one whose quotation mark is open. If the log has
+no event, a line on standard error says so, and with `--strict` the status is 4.
 
 Questions, as records of the log or each by `--ask`, are answered in place of that, or after it with `--report`:
   explain,LINE  check,LINE,LINE..  relation,LINE,LINE  influenced,LINE  drift,NODE   as `hlc run` does, by lines

@@ -45,6 +45,7 @@ mod log_part;
 mod number_signs;
 mod option_rule;
 mod option_value;
+mod resent_option;
 mod subcommand_rule;
 mod unit_options;
 

@@ -49,6 +49,8 @@ pub enum RecordsMistake {
     ReadingUnit,
     /// A word is given for the unit of `l` that names none.
     LUnit,
+    /// A word is given for which send of a message that is sent again a receive is of that names none.
+    Resent,
 }
 
 impl fmt::Display for RecordsMistake {
@@ -69,6 +71,7 @@ impl fmt::Display for RecordsMistake {
             RecordsMistake::UnitAlone => "--reading-unit and --l-unit need one another",
             RecordsMistake::ReadingUnit => "--reading-unit takes `s`, `ms`, `us` or `ns`",
             RecordsMistake::LUnit => "--l-unit takes `s`, `ms`, `us`, `ns` or `ntp64`",
+            RecordsMistake::Resent => "--resent takes `first` or `last`",
         })
     }
 }
@@ -115,7 +118,8 @@ impl fmt::Display for LineFault {
             LineFault::Forms => "--packed and --dotted are two forms of stamps",
             LineFault::Unsent => "--unsent takes only the word `local`",
             LineFault::Receives => "--receives takes `tick`, `merge` or `merge-clock`",
-            LineFault::Question => "--ask takes a question of a log",
+            LineFault::Question =>
+                "--ask takes a question of a log: explain,LINE, check,LINE,LINE.., relation,LINE,LINE, influenced,LINE, drift,NODE, claimed,LINE or event,LINE",
             LineFault::Memory => "out of memory",
         };
         f.write_str(text)

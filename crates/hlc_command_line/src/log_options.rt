@@ -5,15 +5,16 @@ ghost use Rattle.clap.specs.Words.{found_of, rows_of};
 ghost use Rattle.hlc_command_line.specs.NumberOption.{HasNumber, IsOptionalNumber};
 ghost use Rattle.hlc_command_line.specs.LineOption.{HasFlag, HaveOptions, IsOtherWord, IsWordOf};
 ghost use Rattle.hlc_command_line.specs.JsonOptions.{IsSyntaxOf, jsonl};
-ghost use Rattle.hlc_command_line.specs.Line.{AreAuditOptions, AreLogRules, AreTwoForms, IsAuditMistake, IsFormOf, IsNoReceives, IsNumberOr, IsReceivesOf, IsRulesMistake, dotted, log_options, packed, tolerance, unsent};
+ghost use Rattle.hlc_command_line.specs.Line.{AreAuditOptions, AreLogRules, AreTwoForms, IsAuditMistake, IsFaultRuleOf, IsFormOf, IsNoReceives, IsNumberOr, IsReceivesOf, IsRulesMistake, dotted, lenient, log_options, packed, tolerance, unsent};
 
 use crate::line_fault::LineFault;
 use crate::line_order::AuditOptions;
 use crate::option_value::{drift_limit, flag};
+use crate::resent_option::resent;
 use crate::unit_options::units;
 use clap::ArgMatches;
 use hlc_causality::Receives;
-use hlc_log_text::{LogRules, PackedBits, RecordSyntax, StampForm};
+use hlc_log_text::{FaultRule, LogRules, PackedBits, RecordSyntax, StampForm};
 
 // The number of bits in which `c` is packed, of a subcommand that has the option.
 fn packed_number(options: &ArgMatches<'_>) -> Option<u32>
@@ -92,6 +93,18 @@ fn unsent_local(options: &ArgMatches<'_>) -> Result<bool, LineFault>
     }
 }
 
+// What becomes of records that are bad, of a subcommand that has the option.
+fn fault_rule(options: &ArgMatches<'_>) -> FaultRule
+    requires { HasFlag (rows_of (found_of options.now)) lenient }
+    ensures { IsFaultRuleOf (rows_of (found_of options.now)) result }
+{
+    if flag(options, "lenient") {
+        FaultRule::LeaveOut
+    } else {
+        FaultRule::First
+    }
+}
+
 // In which syntax the records of a log are written, of a subcommand that has the option.
 fn syntax(options: &ArgMatches<'_>) -> RecordSyntax
     requires { HasFlag (rows_of (found_of options.now)) jsonl }
@@ -109,6 +122,7 @@ pub(crate) fn log_rules(options: &ArgMatches<'_>) -> Result<LogRules, LineFault>
     requires bits { HasNumber (rows_of (found_of options.now)) packed }
     requires dot { HasFlag (rows_of (found_of options.now)) dotted }
     requires known { HasNumber (rows_of (found_of options.now)) tolerance }
+    requires leave { HasFlag (rows_of (found_of options.now)) lenient }
     requires json { HasFlag (rows_of (found_of options.now)) jsonl }
     ensures found { IfOk result (AreLogRules (rows_of (found_of options.now))) }
     ensures mistaken { IfErr result (IsRulesMistake (rows_of (found_of options.now))) }
@@ -118,6 +132,8 @@ pub(crate) fn log_rules(options: &ArgMatches<'_>) -> Result<LogRules, LineFault>
         tolerance: tolerance(options),
         receives: receives(options)?,
         unsent_local: unsent_local(options)?,
+        resent: resent(options)?,
+        faults: fault_rule(options),
         syntax: syntax(options),
         units: units(options)?,
     })

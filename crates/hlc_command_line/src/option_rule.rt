@@ -206,6 +206,16 @@ pub(crate) const UNSENT: OptionRule = OptionRule {
     },
 };
 
+pub(crate) const RESENT: OptionRule = OptionRule {
+    name: "resent",
+    text: "A message may be sent again: a receive is of the send whose stamp it tells as carried, or else of the first, or of the last before it",
+    takes: Takes::One {
+        value: "WHICH",
+        parser: ValueParser::String,
+        required: false,
+    },
+};
+
 pub(crate) const STRICT: OptionRule = OptionRule {
     name: "strict",
     text: "The status is 3 if a stamp is behind or not above another one, or a message carried another stamp than its send",
@@ -252,6 +262,12 @@ pub(crate) const REPORT: OptionRule = OptionRule {
 pub(crate) const JSONL: OptionRule = OptionRule {
     name: "jsonl",
     text: "The log is lines of JSON: each object tells of an event",
+    takes: Takes::Nothing,
+};
+
+pub(crate) const LENIENT: OptionRule = OptionRule {
+    name: "lenient",
+    text: "Records that are bad are left out",
     takes: Takes::Nothing,
 };
 

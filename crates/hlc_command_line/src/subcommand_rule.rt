@@ -6,8 +6,8 @@ ghost use Rattle.hlc_command_line.specs.Subcommand.{app_of_subcommand};
 use crate::help;
 use crate::option_rule::{
     AROUND_LINE, ASK, AUDIT_LIMIT, CAPACITY, DOTTED, EXPLAIN, EXPLAIN_LINE, FIELD, FROM, FROM_LINE,
-    JSONL, KIND, L_UNIT, LIMIT, NODES, ONLY_CHAIN, OptionRule, PACKED, READING_UNIT, RECEIVES,
-    REPORT, ROWS, SEED, STEPS, STRICT, TO, TO_LINE, TOLERANCE, UNSENT, VECTOR,
+    JSONL, KIND, L_UNIT, LENIENT, LIMIT, NODES, ONLY_CHAIN, OptionRule, PACKED, READING_UNIT,
+    RECEIVES, REPORT, RESENT, ROWS, SEED, STEPS, STRICT, TO, TO_LINE, TOLERANCE, UNSENT, VECTOR,
 };
 
 // A subcommand, its help and its options.
@@ -54,12 +54,14 @@ static TRACE_OPTIONS: [OptionRule; 4] = [NODES, CAPACITY, LIMIT, VECTOR];
 
 static JUDGE_OPTIONS: [OptionRule; 0] = [];
 
-static AUDIT_OPTIONS: [OptionRule; 14] = [
+static AUDIT_OPTIONS: [OptionRule; 16] = [
     PACKED,
     DOTTED,
     TOLERANCE,
     RECEIVES,
     UNSENT,
+    RESENT,
+    LENIENT,
     JSONL,
     FIELD,
     KIND,
@@ -71,12 +73,14 @@ static AUDIT_OPTIONS: [OptionRule; 14] = [
     REPORT,
 ];
 
-static DRAW_LOG_OPTIONS: [OptionRule; 16] = [
+static DRAW_LOG_OPTIONS: [OptionRule; 18] = [
     PACKED,
     DOTTED,
     TOLERANCE,
     RECEIVES,
     UNSENT,
+    RESENT,
+    LENIENT,
     JSONL,
     FIELD,
     KIND,
@@ -90,12 +94,14 @@ static DRAW_LOG_OPTIONS: [OptionRule; 16] = [
     ONLY_CHAIN,
 ];
 
-static VECTORS_OPTIONS: [OptionRule; 10] = [
+static VECTORS_OPTIONS: [OptionRule; 12] = [
     PACKED,
     DOTTED,
     TOLERANCE,
     RECEIVES,
     UNSENT,
+    RESENT,
+    LENIENT,
     JSONL,
     FIELD,
     KIND,

@@ -4,6 +4,7 @@ pub mod ChainTexts
 pub mod Crosses
 pub mod Crossings
 pub mod Drawn
+pub mod Faults
 pub mod Steps
 pub mod Texts
 pub mod Windows

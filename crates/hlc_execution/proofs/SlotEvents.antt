@@ -5,7 +5,6 @@ use Rattle.std.proofs.Math.ListN.{get_or-map}
 use Rattle.std.proofs.lemmas.List.{length-map}
 use Rattle.std.proofs.lemmas.List.{get_or-map as get_or-map_within}
 use Rattle.hlc_stamp.specs.declared.id.EventId.{EventId}
-use Rattle.hlc_stamp.specs.declared.limits.TheConstants.{MAX_NODES}
 use Rattle.hlc_causality.specs.ReceiveEvents.{ClockRules}
 use Rattle.hlc_causality.specs.Causality.{SkeletonEvent, skeleton_at}
 use Rattle.hlc_causality.specs.Neighbours.{place_of}
@@ -65,12 +64,11 @@ label_is_source slots rules nodes room execution k d is =
     let source = send_is_source (execution_in rules nodes slots room) execution k d (sym (send_at slots k) ∙ is) in
     (source.0, send_at slots d ∙ source.1)
 
--- the node of an event is below the most that there may be
+-- the node of an event is one of those that there are
 pub node_is_small : (slots : List Slot) (rules : ClockRules) (nodes room : ℕ) → IsExecution (execution_in rules nodes slots room) → (k : ℕ) → k < length slots
-    → (other : Slot) → (slice_index_or slots k other).node.0 < MAX_NODES
+    → (other : Slot) → (slice_index_or slots k other).node.0 < nodes
 node_is_small slots rules nodes room sound k within other =
     let exists : k < length (events_of_slots slots) = subst (λ (n : ℕ). k < n) (sym (length-events_of_slots slots)) within in
     let here = (sound.each k exists).node in
-    let few = sound.few_nodes in
     let mapped = ap (λ (e : SkeletonEvent). e.node) (get_or-map_within event_of_slot slots k other no_event within) in
     omega arith

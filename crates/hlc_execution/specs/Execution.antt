@@ -1,6 +1,6 @@
 -- Executions as they are kept, and what is always true of them.
-use Rattle.std.specs.Prelude.{◌≡◌, ◌↔◌, ℕ, ◌<◌, ◌≤◌, None, List, length, take, IfSome}
-use Rattle.hlc_stamp.specs.declared.limits.TheConstants.{MAX_CAPACITY, MAX_NODES}
+use Rattle.std.specs.Prelude.{◌≡◌, ◌↔◌, ℕ, ◌<◌, ◌≤◌, ◌^◌, None, List, length, take, IfSome}
+use Rattle.hlc_stamp.specs.declared.limits.TheConstants.{MAX_CAPACITY}
 use Rattle.hlc_stamp.specs.Order.{Pair}
 use Rattle.hlc_causality.specs.declared.receives.Receives.TheVariants.{Tick}
 use Rattle.hlc_causality.specs.Assignment.{IsLeast}
@@ -40,9 +40,10 @@ pub record MayFollow (nodes : ℕ) (others : Skeleton) (e : SkeletonEvent) : Typ
   pub node : e.node < nodes
   pub send : IfSome e.send (IsSource others)
 
--- what is always true of an execution: it is within the limits, has a stamp for each event, and each event may follow those before it
+-- what is always true of an execution: its nodes have numbers of 16 bits, its events are within the capacity, each has a stamp, and each
+-- may follow those before it
 pub record IsExecution (x : StoredExecution) : Type 0 where
-  pub few_nodes : x.nodes ≤ MAX_NODES
+  pub few_nodes : x.nodes < 2 ^ 16
   pub small_floors : HaveSmallFloors x.rules
   pub few : length x.events ≤ MAX_CAPACITY
   pub stamped : length x.stamps ≡ length x.events

@@ -20,7 +20,7 @@ use crate::rules::Rules;
 use crate::slot::{Slot, forcing_predecessor, link_at_node, link_delivery};
 use hlc_causality::{EventRule, Receives};
 use hlc_pages::{Link, Pages};
-use hlc_stamp::{EventId, MAX_CAPACITY, MAX_NODES, NodeId, Stamp};
+use hlc_stamp::{EventId, MAX_CAPACITY, NodeId, Stamp};
 use std::alloc::{AllocError, Global};
 use std::marker::Model;
 
@@ -29,6 +29,7 @@ use std::marker::Model;
 /// Each event is linked to its neighbours, the events of its node before and after it, a send and its deliveries, and to
 /// its forcing event; and of each node the events are kept that are asked for most. So every call but `new`, the copies
 /// and `origin` takes constant time. Only `new`, the copies, `reserve` and `give_rule` take memory, and no event is moved when more come.
+/// There are as many nodes as the caller asks for, 65,535 at most, and each takes 32 bytes from the start, with events or without.
 #[derive(Drop)]
 pub struct Execution {
     slots: Pages<Slot>,
@@ -52,7 +53,6 @@ impl Model for Execution {
 impl Execution {
     /// So many nodes with no event, whose clocks count on at each event, as the paper's do.
     pub fn new(alloc: Global, nodes: u16) -> Result<Execution, AllocError>
-        requires { nodes ≤ MAX_NODES }
         ensures rules { IfOk result (λ execution. execution.rules ≡ plain_rules Receives.Tick) }
         ensures nodes { IfOk result (λ execution. execution.nodes ≡ nodes) }
         ensures events { IfOk result (λ execution. execution.events ≡ []) }
@@ -67,7 +67,6 @@ impl Execution {
         nodes: u16,
         receives: Receives,
     ) -> Result<Execution, AllocError>
-        requires { nodes ≤ MAX_NODES }
         ensures rules { IfOk result (λ execution. execution.rules ≡ plain_rules receives) }
         ensures nodes { IfOk result (λ execution. execution.nodes ≡ nodes) }
         ensures events { IfOk result (λ execution. execution.events ≡ []) }
@@ -257,7 +256,7 @@ impl Execution {
         ensures none { IsNone result ↔ (length self.now.events ≤ id.0) }
         ensures event { IfSome result (λ event. skeleton_event_of event ≡ skeleton_at self.now.events id.0) }
         ensures stamp { IfSome result (λ event. event.stamp ≡ pair_at self.now.stamps id.0) }
-        ensures node { IfSome result (λ event. event.node.0 < MAX_NODES) }
+        ensures node { IfSome result (λ event. event.node.0 < self.now.nodes) }
         ensures previous { IfSome result (λ event. NamesPrevious self.now.events id.0 event.previous) }
         ensures send { IfSome result (λ event. NamesSend self.now.events id.0 event.send) }
     {

@@ -15,6 +15,8 @@ pub(crate) struct NodeEnds {
     pub(crate) drift: u64,
 }
 
+const _: () = prove!(size_of::<Option<NodeEnds>>() == 32);
+
 // What is to be kept of a node after one more event of it.
 pub(crate) fn with_event(before: Option<NodeEnds>, event: EventId, drift: u64) -> NodeEnds
     ensures last { result.last ≡ event }

@@ -1,16 +1,16 @@
 -- How a frontier goes back through a past.
-use Rattle.std.proofs.Common.{◌≡◌, ◌≢◌, ◌↔◌, ◌⊎◌, ℕ, zero, suc, ◌+◌, ◌-◌, ◌<◌, ◌≤◌, inl, inr, List, [], ◌∷◌, length, take, get_or, get_or-set_other, get_or-set_same, length-set, max, Option, Some, arith, refl, subst, sym, ap, ◌∙◌}
+use Rattle.std.proofs.Common.{◌≡◌, ◌≢◌, ◌↔◌, ◌⊎◌, ℕ, zero, suc, ◌+◌, ◌<◌, ◌≤◌, inl, inr, List, [], ◌∷◌, length, take, get_or, get_or-set_other, get_or-set_same, length-set, max, Option, Some, arith, refl, subst, sym, ap, ◌∙◌}
 use Rattle.std.proofs.Math.Nat.{le-max_left, le-max_right}
-use Rattle.std.proofs.Math.ListN.{replicate}
 use Rattle.std.proofs.lemmas.Bool.{cases_eq, cases_lt}
-use Rattle.std.proofs.lemmas.List.{get_or-replicate, get_or_past, length-replicate}
+use Rattle.std.specs.Prelude.{All}
+use Rattle.std.proofs.lemmas.List.{get_or_past}
+use Rattle.std.proofs.lemmas.List.Elements.{All-get_or}
 use Rattle.hlc_stamp.specs.declared.id.EventId.{EventId}
 use Rattle.hlc_causality.specs.Causality.{Skeleton, skeleton_at}
 use Rattle.hlc_causality.specs.Neighbours.{NamesPrevious, NamesSend}
 use Rattle.hlc_causality.specs.Past.{IsInPast}
 use Rattle.hlc_causality.proofs.Past.{direct_happened_before, last_step_is_direct, past_then, past_trans}
-use Rattle.hlc_execution.specs.Execution.{IsExecution, StoredExecution}
-use Rattle.hlc_explain.specs.Frontier.{AreEnds, IsBeforeEnd, IsBehind, IsFrontier, IsInRest, last_of, frontier_with}
+use Rattle.hlc_explain.specs.Frontier.{AreEnds, IsBeforeEnd, IsBehind, IsFrontier, IsInRest, ends_with, frontier_with, last_of}
 use Rattle.hlc_explain.specs.declared.frontier.Frontier.{Frontier}
 use Rattle.hlc_explain.specs.Marks.{IsNamed}
 use Rattle.hlc_explain.proofs.Reaching.{direct_is_named, named_is_direct, past_is_earlier}
@@ -39,26 +39,16 @@ last_of_more [] i lt = absurd (omega arith)
 last_of_more (end ∷ ends) zero lt = grind arith
 last_of_more (end ∷ ends) (suc i) lt = let more = last_of_more ends i (omega arith) in grind (arith, more)
 
--- ends that are 0 may be left out
-pub last_of_first : (n : ℕ) (ends : List ℕ) → ((k : ℕ) → n ≤ k → get_or ends k 0 ≡ 0) → last_of (take n ends) ≡ last_of ends
-last_of_first zero [] zeros = refl
-last_of_first (suc n) [] zeros = refl
-last_of_first zero (end ∷ ends) zeros =
-    let le : last_of (end ∷ ends) ≤ 0 = last_of_bounded (end ∷ ends) 0 (λ k. let none = zeros k (omega arith) in omega arith) in
-    omega arith
-last_of_first (suc n) (end ∷ ends) zeros = ap (λ (m : ℕ). max end m) (last_of_first n ends (λ k le. zeros (suc k) (omega arith)))
+-- ends that are all 0
+module _ (ends : List ℕ) (clear : All (λ (end : ℕ). end ≡ 0) ends) where
+  pub no_end : (k : ℕ) → ◌≡◌ {A = ℕ} (get_or ends k 0) 0
+  no_end k = elim (cases_lt k (length ends)) [
+    | inl lt ↦ All-get_or (λ (end : ℕ). end ≡ 0) ends k 0 lt clear
+    | inr le ↦ get_or_past ends k 0 le
+  ]
 
-same_at : (n k end : ℕ) → get_or (replicate n end) k end ≡ end
-same_at n k end = elim (cases_lt k n) [
-  | inl lt ↦ get_or-replicate n k end end lt
-  | inr le ↦ get_or_past (replicate n end) k end (let size = length-replicate n end in omega arith)
-]
-
-pub no_end : (n k : ℕ) → ◌≡◌ {A = ℕ} (get_or (replicate n 0) k 0) 0
-no_end n k = same_at n k 0
-
-pub last_of_none : (n : ℕ) → 0 ≡ last_of (replicate n 0)
-last_of_none n = let le = last_of_bounded (replicate n 0) 0 (λ k. let none = no_end n k in omega arith) in omega arith
+  pub last_of_none : 0 ≡ last_of ends
+  last_of_none = let le = last_of_bounded ends 0 (λ k. let none = no_end k in omega arith) in omega arith
 
 module _ (s : Skeleton) where
   -- an event's past has the events before it at its node
@@ -235,18 +225,6 @@ module _ (s : Skeleton) where
             ]
       ])
 
--- only nodes that there are have an end
-pub ends_of_nodes :
-    (x : StoredExecution) (ends : List ℕ) → IsExecution x → AreEnds x.events ends → (k : ℕ) → x.nodes ≤ k → get_or ends k 0 ≡ 0
-ends_of_nodes x ends execution are k beyond = elim (cases_lt 0 (get_or ends k 0)) [
-  | inr le ↦ omega arith
-  | inl lt ↦
-      let d : ℕ = get_or ends k 0 - 1 in
-      let at = are k d (omega arith) in
-      let node = (execution.each d at.0).node in
-      absurd (omega arith)
-]
-
 -- the rest of a past, once its latest event m is looked at: what m names is taken in
 pub looked_at :
     (s : Skeleton) (ends with_sent : List ℕ) (IsLeft : ℕ → Type 0) (m : ℕ) (previous send : Option EventId) →
@@ -285,11 +263,11 @@ named_past s link event e is = (
 )
 
 -- if the latest event isn't after e, and e is in the rest, e is the latest
-pub rest_is_latest : (s : Skeleton) (f : Frontier) (e : ℕ) → IsFrontier s f → f.latest.0 ≤ e → IsInRest s f e → f.latest.0 ≡ e
-rest_is_latest s f e frontier le rest = elim rest [
+pub rest_is_latest : (s : Skeleton) (ends : List ℕ) (f : Frontier) (e : ℕ) → IsFrontier s ends f → f.latest.0 ≤ e → IsInRest s ends f e → f.latest.0 ≡ e
+rest_is_latest s ends f e frontier le rest = elim rest [
   | inl past ↦ let from = past_is_earlier s e f.latest.0 past in omega arith
   | inr behind ↦
-      let lt = behind_is_earlier s f.ends e behind in
+      let lt = behind_is_earlier s ends e behind in
       let last = frontier.last_end in
       let latest = frontier.latest in
       absurd (omega arith)
@@ -299,31 +277,37 @@ no_later : (end d latest : ℕ) → end ≤ latest → d < latest → max end (d
 no_later end d latest le lt = grind (arith, le, lt)
 
 -- an event before the latest is taken in
-pub behind_with_event :
-    (s : Skeleton) (f : Frontier) (n d : ℕ) → IsFrontier s f → d < f.latest.0 → (skeleton_at s d).node ≡ n → n < length f.ends →
-    (e : ℕ) → IsBehind s (frontier_with f n d).ends e ↔ (IsBehind s f.ends e ⊎ IsInPast s e d)
-behind_with_event s f n d frontier earlier at_node lt =
-    let there = frontier.exists in
-    let end = max (get_or f.ends n 0) (d + 1) in
-    let others : (k : ℕ) → k ≢ n → get_or (frontier_with f n d).ends k 0 ≡ get_or f.ends k 0 =
-    λ k other. get_or-set_other f.ends n k end 0 other in
-    behind_extended s f.ends (frontier_with f n d).ends n others d (omega arith) at_node (get_or-set_same f.ends n end 0 lt)
+module _ (s : Skeleton) (ends : List ℕ) (f : Frontier) (n d : ℕ) (frontier : IsFrontier s ends f) (earlier : d < f.latest.0)
+    (at_node : (skeleton_at s d).node ≡ n) where
+  exists : d < length s
+  exists = let there = frontier.exists in omega arith
 
-pub frontier_with_event :
-    (s : Skeleton) (f : Frontier) (n d : ℕ) → IsFrontier s f → d < f.latest.0 → (skeleton_at s d).node ≡ n → n < length f.ends →
-    IsFrontier s (frontier_with f n d)
-frontier_with_event s f n d frontier earlier at_node lt =
-    let there = frontier.exists in
-    let end = max (get_or f.ends n 0) (d + 1) in
-    let new = (frontier_with f n d).ends in
-    let others : (k : ℕ) → k ≢ n → get_or new k 0 ≡ get_or f.ends k 0 = λ k other. get_or-set_other f.ends n k end 0 other in
-    let at : get_or new n 0 ≡ end = get_or-set_same f.ends n end 0 lt in
-    let exists : d < length s = omega arith in
-    record {
-      size = length-set f.ends n end ∙ frontier.size;
-      exists = frontier.exists;
-      at_node = frontier.at_node;
-      are_ends = ends_extended s f.ends new n others d exists at_node at frontier.are_ends;
-      last_end = ap (λ (m : ℕ). max m (d + 1)) frontier.last_end ∙ sym (last_of_extended s f.ends new n others d exists at_node at);
-      latest = no_later f.last_end d f.latest.0 frontier.latest earlier;
-    }
+  has_end : n < length ends
+  has_end = subst (λ (node : ℕ). node < length ends) at_node (frontier.has_end d exists)
+
+  abbrev end : ℕ
+  end = max (get_or ends n 0) (d + 1)
+
+  abbrev new : List ℕ
+  new = ends_with ends n d
+
+  others : (k : ℕ) → k ≢ n → get_or new k 0 ≡ get_or ends k 0
+  others k other = get_or-set_other ends n k end 0 other
+
+  at_end : get_or new n 0 ≡ end
+  at_end = get_or-set_same ends n end 0 has_end
+
+  pub behind_with_event : (e : ℕ) → IsBehind s new e ↔ (IsBehind s ends e ⊎ IsInPast s e d)
+  behind_with_event = behind_extended s ends new n others d exists at_node at_end
+
+  pub frontier_with_event : IsFrontier s new (frontier_with f d)
+  frontier_with_event =
+      let size = length-set ends n end in
+      record {
+        has_end = λ e there. let lt = frontier.has_end e there in omega arith;
+        exists = frontier.exists;
+        at_node = frontier.at_node;
+        are_ends = ends_extended s ends new n others d exists at_node at_end frontier.are_ends;
+        last_end = ap (λ (m : ℕ). max m (d + 1)) frontier.last_end ∙ sym (last_of_extended s ends new n others d exists at_node at_end);
+        latest = no_later f.last_end d f.latest.0 frontier.latest earlier;
+      }

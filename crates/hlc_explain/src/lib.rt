@@ -4,7 +4,8 @@
 //! log that others wrote makes one: the same code, with the same proof, answers for both.
 //!
 //! - `chain` and `check_chain`: the events that force a stamp, and whether a list is such a chain.
-//! - `relation` and `influenced`: how two events stand in happened-before, and all that an event happened before.
+//! - `relation` and `influenced`: how two events stand in happened-before, and all that an event happened before. For more nodes than a
+//!   cluster has, `relation_with_ends` is lent a number for each.
 //! - `drift`: how far a node's stamps ran ahead of its readings. `explain_all`: a summary of each event, on all processors.
 //! - `vectors`: of each event, how many events of each node are the event itself or happened before it (Fidge 1988, Mattern
 //!   1989). They show causality without a look at messages; tools that draw logs read them. They give no stamps and read none.
@@ -73,7 +74,7 @@ mod marks;
 mod summaries;
 
 pub use answers::{Drift, Missing, Relation, Summary};
-pub use causality::relation;
+pub use causality::{relation, relation_with_ends};
 pub use chain_check::check_chain;
 pub use chains::chain;
 pub use counting::vectors;

@@ -2,7 +2,8 @@
 use Rattle.std.proofs.Common.{◌≡◌, ◌∙◌, Bool, false, true, ℕ, ◌<◌, ◌≤◌, inl, inr, List, Option, Some, None, arith, length, refl, sym, ap, subst, take}
 use Rattle.std.specs.Prelude.{All, Contains}
 use Rattle.std.proofs.lemmas.List.{ext_get_or, get_or_default, length-map}
-use Rattle.hlc_stamp.specs.declared.limits.TheConstants.{MAX_CAPACITY, MAX_NODES}
+use Rattle.hlc_stamp.specs.declared.limits.TheConstants.{MAX_CAPACITY}
+use Rattle.hlc_log.specs.declared.log_event.TheConstants.{MAX_LOG_NODES}
 use Rattle.hlc_stamp.specs.Order.{Pair, zero_pair}
 use Rattle.hlc_causality.specs.declared.receives.Receives.TheVariants.{Tick}
 use Rattle.hlc_causality.specs.declared.receives.Receives.{Receives}
@@ -193,7 +194,7 @@ none_given events log is causal k lt untold =
     absurd (let bad : ◌≡◌ {A = Bool} true false = sym (stamps_told events log is causal k lt) ∙ untold in cc bad)
 
 -- in its own order
-pub log_in_own_order : (events : List StampedEvent) (log : List LogEvent) (nodes : ℕ) → nodes ≤ MAX_NODES → AreOfNodes nodes log → IsHistoryLog events log
+pub log_in_own_order : (events : List StampedEvent) (log : List LogEvent) (nodes : ℕ) → nodes ≤ MAX_LOG_NODES → AreOfNodes nodes log → IsHistoryLog events log
     → length events ≤ MAX_CAPACITY → ((e : ℕ) → e < length events → HasReading events e)
     → (in_order : LogInOrder) × (in_order.receives ≡ Tick) × (in_order.events ≡ log) × IsInOrder in_order
 log_in_own_order events log nodes few_nodes of_nodes is few readings =

@@ -3,6 +3,7 @@ use Rattle.std.proofs.Common.{◌≡◌, ◌∙◌, ℕ, zero, suc, ◌^◌, ◌
 use Rattle.std.specs.Prelude.{All, slice_index_or}
 use Rattle.std.proofs.lemmas.List.{get_or-map, length-map, map-append}
 use Rattle.hlc_stamp.specs.declared.limits.TheConstants.{MAX_NODES, MAX_READING}
+use Rattle.hlc_log.specs.declared.log_event.TheConstants.{MAX_LOG_NODES}
 use Rattle.hlc_stamp.specs.Order.{Pair}
 use Rattle.hlc_causality.specs.Causality.{SkeletonEvent}
 use Rattle.hlc_causality.specs.Places.{places_below}
@@ -16,12 +17,13 @@ use Rattle.hlc_csv.specs.RecordLines.{told_lines}
 use Rattle.hlc_csv.specs.Rows.{Fields}
 use Rattle.hlc_log_text.specs.LogRules.{exact_rules}
 use Rattle.hlc_log_text.specs.declared.stamp_form.StampForm.TheVariants as form
-use Rattle.hlc_log_text.specs.LogItem.{LogItem, Tells, events_in, item_of, lines_where, questions_in}
+use Rattle.hlc_log_text.specs.LogItem.{LogItem, Tells, events_in, item_of, lines_where, questions_in, reasons_in}
 use Rattle.hlc_log_text.specs.LogText.{IsLogOf, node_names}
 use Rattle.hlc_log_text.specs.NamedEvent.{NamedEvent}
 use Rattle.hlc_log_text.specs.Question.{plain_asked}
 use Rattle.hlc_log_text.specs.Skipped.{is_skip, skipped_in, skipped_on}
 use Rattle.hlc_log_text.specs.ReadLog.{MakeItems, SayItems}
+use Rattle.hlc_log_text.specs.declared.bad_log.BadLine.{BadLine}
 use Rattle.hlc_log_text.specs.declared.bad_log.BadLog.{BadLog}
 use Rattle.hlc_log_text.specs.declared.log_text.LogText.{LogText}
 use Rattle.hlc_log_text.proofs.PlainLogs.{placed_say, said_once}
@@ -49,6 +51,10 @@ events_told (x ∷ told) = ap (λ (rest : List NamedEvent). x ∷ rest) (events_
 nothing_asked : (told : List NamedEvent) → questions_in (map tells_it told) ≡ []
 nothing_asked [] = refl
 nothing_asked (x ∷ told) = nothing_asked told
+
+nothing_bad : (told : List NamedEvent) → reasons_in (map tells_it told) ≡ []
+nothing_bad [] = refl
+nothing_bad (x ∷ told) = nothing_bad told
 
 nothing_skipped : (told : List NamedEvent) (lines : List ℕ) → lines_where is_skip (map tells_it told) lines ≡ []
 nothing_skipped [] lines = refl
@@ -160,10 +166,12 @@ module _ (h : History) (clocked : IsClocked h) where
         is,
       )
 
-  few_told : length (node_names (events_in (map tells_it told))) ≤ MAX_NODES
+  few_told : length (node_names (events_in (map tells_it told))) ≤ MAX_LOG_NODES
   few_told =
+      let few : length (node_names (events_in (map tells_it told))) ≤ MAX_NODES =
       subst (λ (events : List NamedEvent). length (node_names events) ≤ MAX_NODES) (sym (events_told told))
-      (few_names MAX_NODES (map (λ (e : NamedEvent). e.node) told) (omega arith) nodes_below)
+      (few_names MAX_NODES (map (λ (e : NamedEvent). e.node) told) (omega arith) nodes_below) in
+      omega (arith, few)
 
   say_items : SayItems (exact_rules form.Pair) (log_rows h.events) (map tells_it told)
   say_items = placed_say (exact_rules form.Pair) [] (log_rows h.events) (map tells_it told) refl (rows_tell (length h.events) (omega arith))
@@ -175,7 +183,7 @@ module _ (h : History) (clocked : IsClocked h) where
   items_read : (text : LogText) → (read : IsLogRead h text) → read.items ≡ map tells_it told
   items_read text read =
       let rows : read.records ≡ log_rows h.events = (logs_read_back h.events).1 read.records read.all in
-      said_once (exact_rules form.Pair) [] (log_rows h.events) read.items (map tells_it told)
+      said_once (exact_rules form.Pair) [] (log_rows h.events) read.items (map tells_it told) refl
       (subst (λ (records : List Fields). SayItems (exact_rules form.Pair) records read.items) rows read.make) say_items
 
   pub log_is_read : (text : LogText) → IsLogRead h text → IsHistoryLog h.events text.log.events
@@ -194,6 +202,10 @@ module _ (h : History) (clocked : IsClocked h) where
       let lines = told_lines (log_text h.events) in
       read.skipped ∙ ap (λ (items : List LogItem). skipped_in items lines) (items_read text read) ∙ ap skipped_on (nothing_skipped told lines)
 
+  nothing_is_left_out : (text : LogText) → IsLogRead h text → text.left_out.items ≡ []
+  nothing_is_left_out text read =
+      none_mapped (λ (b : BadLine). b.why) text.left_out.items (read.held.left_out ∙ ap reasons_in (items_read text read) ∙ nothing_bad told)
+
 pub rows_make_events : RowsMakeEvents
 rows_make_events h clocked = (told h clocked, makes_items h clocked, tells_history h clocked)
 
@@ -207,7 +219,7 @@ logs_have_an_order h text clocked read =
 pub logs_tell_events_alone : LogsTellEventsAlone
 logs_tell_events_alone h text clocked read =
     let is = log_is_read h clocked text read in
-    (is.size, nothing_is_asked h clocked text read, nothing_is_skipped h clocked text read)
+    (is.size, nothing_is_asked h clocked text read, nothing_is_skipped h clocked text read, nothing_is_left_out h clocked text read)
 
 pub logs_tell_readings : LogsTellReadings
 logs_tell_readings h text e clocked read lt =

@@ -17,7 +17,7 @@ use Rattle.hlc_log_text.specs.LogRules.{exact_rules}
 use Rattle.hlc_log_text.specs.LogItem.{Tells, item_after_word, item_of, tells}
 use Rattle.hlc_log_text.specs.LogText.{kind_word}
 use Rattle.hlc_log_text.specs.LogWord.{has_fields_of, log_word_of}
-use Rattle.hlc_log_text.specs.NamedEvent.{NamedEvent, assumed_reading, has_good_names, head_by, head_from, head_or_name, head_with, is_name, label_of, named_event_from, reading_of, stamp_told, told_by, tolerated}
+use Rattle.hlc_log_text.specs.NamedEvent.{NamedEvent, assumed_reading, has_good_names, head_by, head_from, head_or_bad, head_with, is_name, label_of, named_event_from, reading_of, stamp_told, told_by, tolerated}
 use Rattle.hlc_log_text.specs.declared.bad_log.BadLog.TheVariants as bad
 use Rattle.hlc_history_log.specs.Laws.{log_kind}
 use Rattle.hlc_history_log.specs.LogRows.{message_of, row_with}
@@ -68,16 +68,16 @@ tells_of_parts fields k reading stamp positive is_word count is_told is_reading 
     let w = kind_word k in
     let good = has_good_names Pair w None fields in
     ap (λ o. item_after_word (exact_rules Pair) None o fields) is_word
-    ∙ ap (λ (b : Bool). tells (named_event_from Pair w None fields (cond b (head_or_name (head_with (exact_rules Pair) w fields) good) (Err bad.Fields)))) count
-    ∙ ap (λ (o : Option (Option Stamp)). tells (named_event_from Pair w None fields (head_or_name (head_from (exact_rules Pair) w (field_of fields 2) o) good))) is_stamp
-    ∙ ap (λ (b : Bool). tells (named_event_from Pair w None fields (head_or_name
+    ∙ ap (λ (b : Bool). tells (named_event_from Pair w None fields (cond b (head_or_bad (exact_rules Pair) None fields (head_with (exact_rules Pair) w fields) good) (Err bad.Fields)))) count
+    ∙ ap (λ (o : Option (Option Stamp)). tells (named_event_from Pair w None fields (head_or_bad (exact_rules Pair) None fields (head_from (exact_rules Pair) w (field_of fields 2) o) good))) is_stamp
+    ∙ ap (λ (b : Bool). tells (named_event_from Pair w None fields (head_or_bad (exact_rules Pair) None fields
     (option_and_then (λ (n : ℕ). head_by w n (not b) (Some stamp))
     (cond b (Some (assumed_reading stamp)) (option_map (λ (n : ℕ). tolerated 0 n stamp.l) (reading_of (exact_rules Pair) (field_of fields 2))))) good))) is_told
-    ∙ ap (λ (o : Option ℕ). tells (named_event_from Pair w None fields (head_or_name
+    ∙ ap (λ (o : Option ℕ). tells (named_event_from Pair w None fields (head_or_bad (exact_rules Pair) None fields
     (option_and_then (λ (n : ℕ). head_by w n true (Some stamp)) (option_map (λ (n : ℕ). tolerated 0 n stamp.l) o)) good))) is_reading
-    ∙ ap (λ (n : ℕ). tells (named_event_from Pair w None fields (head_or_name (head_by w n true (Some stamp)) good))) (exact_reading reading stamp.l positive)
-    ∙ ap (λ h. tells (named_event_from Pair w None fields (head_or_name h good))) is_head
-    ∙ ap (λ (b : Bool). tells (named_event_from Pair w None fields (head_or_name (Some (record { word = w; reading = reading; has_reading = true; stamp = stamp; has_stamp = true })) b))) names
+    ∙ ap (λ (n : ℕ). tells (named_event_from Pair w None fields (head_or_bad (exact_rules Pair) None fields (head_by w n true (Some stamp)) good))) (exact_reading reading stamp.l positive)
+    ∙ ap (λ h. tells (named_event_from Pair w None fields (head_or_bad (exact_rules Pair) None fields h good))) is_head
+    ∙ ap (λ (b : Bool). tells (named_event_from Pair w None fields (head_or_bad (exact_rules Pair) None fields (Some (record { word = w; reading = reading; has_reading = true; stamp = stamp; has_stamp = true })) b))) names
     ∙ ap (λ (l : Option (List ℕ)). Ok (Tells (told_by (record { word = w; reading = reading; has_reading = true; stamp = stamp; has_stamp = true }) (field_of fields 1) (field_of fields 5) None l))) is_label
 
 -- an event, as it is told with a label

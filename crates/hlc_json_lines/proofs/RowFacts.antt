@@ -22,10 +22,10 @@ word-plain word.Restart = refl
 
 -- the row of an event, in its parts
 pub event-row : (before : List ℕ) (rules : Rules) (value : Data) (w : LogWord)
-    → ((before ++ word_text w) ++ fields_text row_setup (column_fields rules value event_columns)) ++ 10 ∷ [] ≡ before ++ text_of_row (event_row rules value (Some w))
+    → ((before ++ word_text w) ++ fields_text row_setup (column_fields rules w value event_columns)) ++ 10 ∷ [] ≡ before ++ text_of_row (event_row rules value (Some w))
 unfolding text_of_row is_blank
 event-row before rules value w =
-    let fields = fields_text row_setup (column_fields rules value event_columns) in
+    let fields = fields_text row_setup (column_fields rules w value event_columns) in
     append_assoc (before ++ word_text w) fields (10 ∷ []) ∙ append_assoc before (word_text w) (fields ++ 10 ∷ [])
     ∙ ap (λ (t : List ℕ). before ++ t) (sym (rw (word-plain w) (append_assoc (word_text w) fields (10 ∷ []))))
 

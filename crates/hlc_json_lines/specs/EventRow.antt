@@ -1,6 +1,6 @@
 -- The row that a line makes.
 use Rattle.std.specs.Prelude.{◌≡◌, ◌==◌, ◌||◌, ℕ, Bool, true, false, List, [], ◌∷◌, Option, Some, None, codes, if◌then◌else◌, map}
-use Rattle.std.specs.List.{after_first, before_first, list_all}
+use Rattle.std.specs.List.{list_all}
 use Rattle.std.specs.Str.{is_utf8}
 use Rattle.csv.specs.Reading.{strip_bom}
 use Rattle.serde_json.specs.Data.{Data}
@@ -12,7 +12,7 @@ use Rattle.hlc_log_text.specs.declared.log_column.LogColumn.TheVariants as colum
 use Rattle.hlc_log_text.specs.declared.log_word.LogWord.{LogWord}
 use Rattle.hlc_json_lines.specs.FieldText.{field_of_value, text_if_there}
 use Rattle.hlc_json_lines.specs.Paths.{value_at}
-use Rattle.hlc_json_lines.specs.Rules.{Rules, path_of, word_of}
+use Rattle.hlc_json_lines.specs.Rules.{Rules, after_point, before_point, path_of, word_of}
 
 -- the columns after that of the word
 abbrev pub event_columns : List LogColumn
@@ -20,9 +20,9 @@ event_columns =
     column.Node ∷ column.Reading ∷ column.L ∷ column.C ∷ column.Stamp ∷ column.Message ∷ column.From ∷ column.Carried ∷ column.CarriedL ∷ column.CarriedC
     ∷ column.Label ∷ []
 
--- the field of a column that an object has under the column's own path
-abbrev pub own_field : Rules → Data → LogColumn → List ℕ
-own_field rules value column = field_of_value column (value_at (path_of rules.paths column) value)
+-- the field of a column that an object has under the own path of the column, in an event of a word
+abbrev pub own_field : Rules → LogWord → Data → LogColumn → List ℕ
+own_field rules word value column = field_of_value column (value_at (path_of rules.paths (Some word) column) value)
 
 -- the field of one of the two columns of a stamp: its own; or if the other's is empty too, what the stamp has for it that is one field
 abbrev pub part_field : (own other of_whole : List ℕ) → List ℕ
@@ -31,43 +31,36 @@ part_field [] (byte ∷ other) of_whole = []
 part_field (byte ∷ own) other of_whole = byte ∷ own
 
 -- of the two columns of a stamp one was read, or if both are empty, the stamp that is one field
-abbrev pub IsPartRead : Rules → Data → (own other whole : LogColumn) → (is_whole : Bool) → List ℕ → Type 0
-IsPartRead rules value own other whole true field =
-    (own_field rules value own ≡ []) × (own_field rules value other ≡ []) × (field ≡ own_field rules value whole)
-IsPartRead rules value own other whole false field = (of_whole : List ℕ) → part_field (own_field rules value own) (own_field rules value other) of_whole ≡ field
+abbrev pub IsPartRead : Rules → LogWord → Data → (own other whole : LogColumn) → (is_whole : Bool) → List ℕ → Type 0
+IsPartRead rules word value own other whole true field =
+    (own_field rules word value own ≡ []) × (own_field rules word value other ≡ []) × (field ≡ own_field rules word value whole)
+IsPartRead rules word value own other whole false field = (of_whole : List ℕ) → part_field (own_field rules word value own) (own_field rules word value other) of_whole ≡ field
 
--- what stands before the first point of a stamp, which is all of it if it has none; and what stands after it
-abbrev pub before_point : List ℕ → List ℕ
-before_point stamp = before_first (λ byte. byte == 46) stamp
+-- so for columns of an object, where a stamp that is one field has a point between its two parts, or no second one
+abbrev pub first_part : Rules → LogWord → Data → (l c stamp : LogColumn) → List ℕ
+first_part rules word value l c stamp = part_field (own_field rules word value l) (own_field rules word value c) (before_point (own_field rules word value stamp))
 
-abbrev pub after_point : List ℕ → List ℕ
-after_point stamp = after_first (λ byte. byte == 46) stamp
-
--- so for columns of an object
-abbrev pub first_part : Rules → Data → (l c stamp : LogColumn) → List ℕ
-first_part rules value l c stamp = part_field (own_field rules value l) (own_field rules value c) (before_point (own_field rules value stamp))
-
-abbrev pub second_part : Rules → Data → (l c stamp : LogColumn) → List ℕ
-second_part rules value l c stamp = part_field (own_field rules value c) (own_field rules value l) (after_point (own_field rules value stamp))
+abbrev pub second_part : Rules → LogWord → Data → (l c stamp : LogColumn) → List ℕ
+second_part rules word value l c stamp = part_field (own_field rules word value c) (own_field rules word value l) (after_point (own_field rules word value stamp))
 
 -- the field of a column
-abbrev pub column_field : Rules → Data → LogColumn → List ℕ
-column_field rules value column.Kind = own_field rules value column.Kind
-column_field rules value column.Node = own_field rules value column.Node
-column_field rules value column.Reading = own_field rules value column.Reading
-column_field rules value column.L = first_part rules value column.L column.C column.Stamp
-column_field rules value column.C = second_part rules value column.L column.C column.Stamp
-column_field rules value column.Stamp = own_field rules value column.Stamp
-column_field rules value column.Message = own_field rules value column.Message
-column_field rules value column.From = own_field rules value column.From
-column_field rules value column.Carried = own_field rules value column.Carried
-column_field rules value column.CarriedL = first_part rules value column.CarriedL column.CarriedC column.Carried
-column_field rules value column.CarriedC = second_part rules value column.CarriedL column.CarriedC column.Carried
-column_field rules value column.Label = own_field rules value column.Label
+abbrev pub column_field : Rules → LogWord → Data → LogColumn → List ℕ
+column_field rules word value column.Kind = own_field rules word value column.Kind
+column_field rules word value column.Node = own_field rules word value column.Node
+column_field rules word value column.Reading = own_field rules word value column.Reading
+column_field rules word value column.L = first_part rules word value column.L column.C column.Stamp
+column_field rules word value column.C = second_part rules word value column.L column.C column.Stamp
+column_field rules word value column.Stamp = own_field rules word value column.Stamp
+column_field rules word value column.Message = own_field rules word value column.Message
+column_field rules word value column.From = own_field rules word value column.From
+column_field rules word value column.Carried = own_field rules word value column.Carried
+column_field rules word value column.CarriedL = first_part rules word value column.CarriedL column.CarriedC column.Carried
+column_field rules word value column.CarriedC = second_part rules word value column.CarriedL column.CarriedC column.Carried
+column_field rules word value column.Label = own_field rules word value column.Label
 
 -- the fields of columns
-abbrev pub column_fields : Rules → Data → List LogColumn → Fields
-column_fields rules value columns = map (column_field rules value) columns
+abbrev pub column_fields : Rules → LogWord → Data → List LogColumn → Fields
+column_fields rules word value columns = map (column_field rules word value) columns
 
 -- the row of a line that tells of no event
 abbrev pub skipped_row : Fields
@@ -76,11 +69,11 @@ skipped_row = codes "skipped" ∷ []
 -- the row of a value that has a word of an event, or none
 abbrev pub event_row : Rules → Data → Option LogWord → Fields
 event_row rules value None = skipped_row
-event_row rules value (Some word) = word_text word ∷ column_fields rules value event_columns
+event_row rules value (Some word) = word_text word ∷ column_fields rules word value event_columns
 
 -- the word of the event that a value tells of
 abbrev pub word_in : Rules → Data → Option LogWord
-word_in rules value = word_of rules.kinds (text_if_there (value_at (path_of rules.paths column.Kind) value))
+word_in rules value = word_of rules.kinds (text_if_there (value_at (path_of rules.paths None column.Kind) value))
 
 -- the row of a line that is a value, or isn't
 abbrev pub value_row : Rules → Option Data → Fields

@@ -34,20 +34,23 @@ const EVENT_COLUMNS: [LogColumn; 11] = [
     LogColumn::Label,
 ];
 
+// An event of a word that an object tells of.
+#[derive(Clone, Copy)]
+struct ToldEvent<'v> {
+    rules: &'v JsonRules,
+    word: LogWord,
+    value: &'v Value,
+}
+
 // Reads the field of a column that an object has under the column's own path. What `field` had is gone.
-fn read_own(
-    field: &mut Vec<u8>,
-    rules: &JsonRules,
-    value: &Value,
-    column: LogColumn,
-) -> Result<(), AllocError>
-    ensures { OnOk result (field.new.items ≡ own_field rules.now (view value.now) column) }
+fn read_own(field: &mut Vec<u8>, event: ToldEvent<'_>, column: LogColumn) -> Result<(), AllocError>
+    ensures { OnOk result (field.new.items ≡ own_field event.entry.rules.now event.entry.word (view event.entry.value.now) column) }
 {
     field.clear();
     put_plain(
         field,
         column,
-        text_if_there(value_at(value, rules.path_of(column))),
+        text_if_there(value_at(event.value, event.rules.path_of(Some(event.word), column))),
     )
 }
 
@@ -55,24 +58,24 @@ fn read_own(
 // Answers whether it is this.
 fn read_part(
     field: &mut Vec<u8>,
-    rules: &JsonRules,
-    value: &Value,
+    event: ToldEvent<'_>,
     own: LogColumn,
     other: LogColumn,
     stamp: LogColumn,
 ) -> Result<bool, AllocError>
-    ensures { IfOk result (λ is_whole. IsPartRead rules.now (view value.now) own other stamp is_whole field.new.items) }
+    ensures { IfOk result (λ is_whole. IsPartRead event.entry.rules.now event.entry.word (view event.entry.value.now)
+        own other stamp is_whole field.new.items) }
 {
-    read_own(field, rules, value, own)?;
+    read_own(field, event, own)?;
     if !field.is_empty() {
         return Ok(false);
     }
-    read_own(field, rules, value, other)?;
+    read_own(field, event, other)?;
     if !field.is_empty() {
         field.clear();
         return Ok(false);
     }
-    read_own(field, rules, value, stamp)?;
+    read_own(field, event, stamp)?;
     Ok(true)
 }
 
@@ -80,15 +83,15 @@ fn read_part(
 fn put_first_part(
     row: &mut Vec<u8>,
     field: &mut Vec<u8>,
-    rules: &JsonRules,
-    value: &Value,
+    event: ToldEvent<'_>,
     l: LogColumn,
     c: LogColumn,
     stamp: LogColumn,
 ) -> Result<(), AllocError>
-    ensures { OnOk result (row.new.items ≡ row.old.items ++ 44 ∷ field_text row_setup (first_part rules.now (view value.now) l c stamp)) }
+    ensures { OnOk result (row.new.items ≡ row.old.items
+        ++ 44 ∷ field_text row_setup (first_part event.entry.rules.now event.entry.word (view event.entry.value.now) l c stamp)) }
 {
-    if read_part(field, rules, value, l, c, stamp)? {
+    if read_part(field, event, l, c, stamp)? {
         return put_field(row, before_point(field));
     }
     put_field(row, field)
@@ -98,15 +101,15 @@ fn put_first_part(
 fn put_second_part(
     row: &mut Vec<u8>,
     field: &mut Vec<u8>,
-    rules: &JsonRules,
-    value: &Value,
+    event: ToldEvent<'_>,
     l: LogColumn,
     c: LogColumn,
     stamp: LogColumn,
 ) -> Result<(), AllocError>
-    ensures { OnOk result (row.new.items ≡ row.old.items ++ 44 ∷ field_text row_setup (second_part rules.now (view value.now) l c stamp)) }
+    ensures { OnOk result (row.new.items ≡ row.old.items
+        ++ 44 ∷ field_text row_setup (second_part event.entry.rules.now event.entry.word (view event.entry.value.now) l c stamp)) }
 {
-    if read_part(field, rules, value, c, l, stamp)? {
+    if read_part(field, event, c, l, stamp)? {
         return put_field(row, after_point(field));
     }
     put_field(row, field)
@@ -116,13 +119,13 @@ fn put_second_part(
 fn put_own(
     row: &mut Vec<u8>,
     field: &mut Vec<u8>,
-    rules: &JsonRules,
-    value: &Value,
+    event: ToldEvent<'_>,
     column: LogColumn,
 ) -> Result<(), AllocError>
-    ensures { OnOk result (row.new.items ≡ row.old.items ++ 44 ∷ field_text row_setup (own_field rules.now (view value.now) column)) }
+    ensures { OnOk result (row.new.items ≡ row.old.items
+        ++ 44 ∷ field_text row_setup (own_field event.entry.rules.now event.entry.word (view event.entry.value.now) column)) }
 {
-    read_own(field, rules, value, column)?;
+    read_own(field, event, column)?;
     put_field(row, field)
 }
 
@@ -130,19 +133,19 @@ fn put_own(
 fn put_column(
     row: &mut Vec<u8>,
     field: &mut Vec<u8>,
-    rules: &JsonRules,
-    value: &Value,
+    event: ToldEvent<'_>,
     column: LogColumn,
 ) -> Result<(), AllocError>
-    ensures { OnOk result (row.new.items ≡ row.old.items ++ 44 ∷ field_text row_setup (column_field rules.now (view value.now) column)) }
+    ensures { OnOk result (row.new.items ≡ row.old.items
+        ++ 44 ∷ field_text row_setup (column_field event.entry.rules.now event.entry.word (view event.entry.value.now) column)) }
 {
     use LogColumn::{C, Carried, CarriedC, CarriedL, L, Stamp};
     match column {
-        L => put_first_part(row, field, rules, value, L, C, Stamp),
-        C => put_second_part(row, field, rules, value, L, C, Stamp),
-        CarriedL => put_first_part(row, field, rules, value, CarriedL, CarriedC, Carried),
-        CarriedC => put_second_part(row, field, rules, value, CarriedL, CarriedC, Carried),
-        other => put_own(row, field, rules, value, other),
+        L => put_first_part(row, field, event, L, C, Stamp),
+        C => put_second_part(row, field, event, L, C, Stamp),
+        CarriedL => put_first_part(row, field, event, CarriedL, CarriedC, Carried),
+        CarriedC => put_second_part(row, field, event, CarriedL, CarriedC, Carried),
+        other => put_own(row, field, event, other),
     }
 }
 
@@ -150,13 +153,13 @@ fn put_column(
 fn put_columns(
     row: &mut Vec<u8>,
     field: &mut Vec<u8>,
-    rules: &JsonRules,
-    value: &Value,
+    event: ToldEvent<'_>,
 ) -> Result<(), AllocError>
-    ensures { OnOk result (row.new.items ≡ row.old.items ++ fields_text row_setup (column_fields rules.now (view value.now) event_columns)) }
+    ensures { OnOk result (row.new.items ≡ row.old.items
+        ++ fields_text row_setup (column_fields event.entry.rules.now event.entry.word (view event.entry.value.now) event_columns)) }
 {
     for column in EVENT_COLUMNS {
-        put_column(row, field, rules, value, column)?;
+        put_column(row, field, event, column)?;
     }
     Ok(())
 }
@@ -172,24 +175,19 @@ fn put_skipped(row: &mut Vec<u8>) -> Result<(), AllocError>
 fn word_in(rules: &JsonRules, value: &Value) -> Option<LogWord>
     ensures { result ≡ word_in rules.now (view value.now) }
 {
-    match text_if_there(value_at(value, rules.path_of(LogColumn::Kind))) {
+    match text_if_there(value_at(value, rules.path_of(None, LogColumn::Kind))) {
         RowField::Text(text) => rules.word_of(text),
         RowField::Number(number) => rules.word_of(Buffer::new().format(number).as_bytes()),
     }
 }
 
 // Adds the row of an event.
-fn put_event(
-    row: &mut Vec<u8>,
-    field: &mut Vec<u8>,
-    rules: &JsonRules,
-    value: &Value,
-    word: LogWord,
-) -> Result<(), AllocError>
-    ensures { OnOk result (row.new.items ≡ row.old.items ++ text_of_row (event_row rules.now (view value.now) (Some word))) }
+fn put_event(row: &mut Vec<u8>, field: &mut Vec<u8>, event: ToldEvent<'_>) -> Result<(), AllocError>
+    ensures { OnOk result (row.new.items
+        ≡ row.old.items ++ text_of_row (event_row event.entry.rules.now (view event.entry.value.now) (Some event.entry.word))) }
 {
-    row.extend_from_slice(word.text())?;
-    put_columns(row, field, rules, value)?;
+    row.extend_from_slice(event.word.text())?;
+    put_columns(row, field, event)?;
     row.extend_from_slice(b"\n")
 }
 
@@ -203,7 +201,7 @@ fn put_value(
     ensures { OnOk result (row.new.items ≡ row.old.items ++ text_of_row (value_row rules.now (Some (view value.now)))) }
 {
     match word_in(rules, value) {
-        Some(word) => put_event(row, field, rules, value, word),
+        Some(word) => put_event(row, field, ToldEvent { rules, word, value }),
         None => put_skipped(row),
     }
 }

@@ -36,7 +36,8 @@ impl JsonRules {
         }
     }
 
-    /// Takes a text `NAME=PATH`: the fields of a column stand at a path, which is written `.KEY.KEY`. The last path of a column counts.
+    /// Takes a text `NAME=PATH`: the fields of a column stand at a path, which is written `.KEY.KEY`; or `WORD.NAME=PATH`: so do those of the events
+    /// of a word. Of the paths that are given for a column and an event the last one counts. The column `kind` has one for all words.
     ///
     /// Answers whether the text is one; if it isn't, nothing changes.
     pub fn add_field(&mut self, alloc: Global, text: &str) -> Result<bool, AllocError>
@@ -44,12 +45,12 @@ impl JsonRules {
         ensures added { IfOk result (λ _. self.new ≡ with_field self.old (field_of_text text.now)) }
         ensures kept { OnErr result (self.new ≡ self.old) }
     {
-        let Some((column, path)) = field_in(text) else {
+        let Some((name, path)) = field_in(text) else {
             return Ok(false);
         };
         self.paths.reserve(1)?;
         let path = String::from_str(alloc, path)?;
-        self.paths.push_reserved(PathRule { column, path });
+        self.paths.push_reserved(PathRule { name, path });
         Ok(true)
     }
 
@@ -70,11 +71,11 @@ impl JsonRules {
         Ok(true)
     }
 
-    // The path of a column.
-    pub(crate) fn path_of(&self, column: LogColumn) -> &str
-        ensures { keys_in result.now ≡ path_of self.now.paths column }
+    // The path of a column of an event of a word, if that is known.
+    pub(crate) fn path_of(&self, word: Option<LogWord>, column: LogColumn) -> &str
+        ensures { keys_in result.now ≡ path_of self.now.paths word column }
     {
-        path_of(self.paths.as_slice(), column)
+        path_of(self.paths.as_slice(), word, column)
     }
 
     // The word that a text means.

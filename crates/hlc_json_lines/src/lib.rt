@@ -32,6 +32,7 @@
 #![tactic(auto)]
 
 mod event_row;
+mod field_name;
 mod field_text;
 mod json_reader;
 mod json_rules;

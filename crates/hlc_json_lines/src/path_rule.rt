@@ -1,4 +1,4 @@
-// Where the values of a column stand in an object.
+// Where the values of a field stand in an object.
 
 ghost use Rattle.std.specs.Prelude.{◌≡◌, option_map};
 ghost use Rattle.serde_json.specs.View.{view};
@@ -6,24 +6,25 @@ ghost use Rattle.hlc_json_lines.specs.JsonRules.{path_rules};
 ghost use Rattle.hlc_json_lines.specs.Paths.{keys_in, path_of_text, value_at};
 ghost use Rattle.hlc_json_lines.specs.Rules.{field_of_text, path_of};
 
+use crate::field_name::{FieldName, field_name};
 use crate::parts::has_empty_part;
-use hlc_log_text::LogColumn;
+use hlc_log_text::{LogColumn, LogWord};
 use serde_json::Value;
 
-// A path that was given for a column: keys, with a point between each two.
+// A path that was given for a field: keys, with a point between each two.
 #[derive(Debug, Drop)]
 pub(crate) struct PathRule {
-    pub(crate) column: LogColumn,
+    pub(crate) name: FieldName,
     pub(crate) path: String,
 }
 
-// The path of a column.
-pub(crate) fn path_of(rules: &[PathRule], column: LogColumn) -> &str
-    ensures { keys_in result.now ≡ path_of (path_rules rules.now) column }
+// The path of a column of an event of a word, if that is known.
+pub(crate) fn path_of(rules: &[PathRule], word: Option<LogWord>, column: LogColumn) -> &str
+    ensures { keys_in result.now ≡ path_of (path_rules rules.now) word column }
 {
     let mut path = column.name();
     for rule in rules {
-        if rule.column.name() == column.name() {
+        if rule.name.is_of(word, column) {
             path = rule.path.as_str();
         }
     }
@@ -54,12 +55,12 @@ fn path_in(text: &str) -> Option<&str>
     Some(path)
 }
 
-// The column and the path of a text `NAME=PATH`.
-pub(crate) fn field_in(text: &str) -> Option<(LogColumn, &str)>
+// The name and the path of a text `NAME=PATH`, or `WORD.NAME=PATH`.
+pub(crate) fn field_in(text: &str) -> Option<(FieldName, &str)>
     ensures { option_map (λ rule. (rule.0, keys_in rule.1.now)) result ≡ field_of_text text.now }
 {
     let (name, path) = text.split_once('=')?;
-    let column = LogColumn::named(name)?;
+    let name = field_name(name)?;
     let path = path_in(path)?;
-    Some((column, path))
+    Some((name, path))
 }

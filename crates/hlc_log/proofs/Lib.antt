@@ -1,4 +1,6 @@
 pub mod Numbered
+pub mod ResentSends
+pub mod ResentLogs
 pub mod SentMessages
 pub mod SentStamps
 pub mod ToldApart
@@ -7,6 +9,9 @@ pub mod LoggedOrders
 pub mod OwnRules
 pub mod StoredEvents
 pub mod Placements
+pub mod ReceiveLinks
+pub mod HeapTurns
+pub mod GivenTurns
 pub mod UnsentEvents
 pub mod Reorderings
 pub mod ReorderedChains

@@ -2,7 +2,6 @@
 use Rattle.std.proofs.Common.{ℕ, ◌<◌, List, length, subst}
 use Rattle.std.specs.Prelude.{All}
 use Rattle.std.proofs.lemmas.List.Elements.{All-get_or}
-use Rattle.hlc_stamp.specs.declared.limits.TheConstants.{MAX_NODES}
 use Rattle.hlc_log.specs.declared.log_event.LogEvent.{LogEvent}
 use Rattle.hlc_log.specs.Events.{IsMessageBelow, IsNumbered, event_at, no_event}
 use Rattle.hlc_log.specs.Messages.{Receives, Sends}
@@ -16,6 +15,3 @@ module _ (messages : ℕ) (events : List LogEvent) (numbered : All (IsNumbered m
 
   pub receive_below : (f m : ℕ) → Receives events f m → m < messages
   receive_below f m receives = subst (IsMessageBelow messages) receives.kind (numbered_at f receives.exists).message
-
-  pub node_below : (e : ℕ) → e < length events → (event_at events e).node.0 < MAX_NODES
-  node_below e exists = (numbered_at e exists).node

@@ -1,6 +1,6 @@
 -- The events of a log.
 use Rattle.std.specs.Prelude.{◌≡◌, ℕ, ◌<◌, ◌≤◌, IfSome, List, Option, Some, None, slice_index_or, true, unwrap_or}
-use Rattle.hlc_stamp.specs.declared.limits.TheConstants.{MAX_NODES, MAX_READING}
+use Rattle.hlc_stamp.specs.declared.limits.TheConstants.{MAX_READING}
 use Rattle.hlc_stamp.specs.Order.{Pair, zero_pair}
 use Rattle.hlc_causality.specs.declared.event_rule.EventRule.{EventRule}
 use Rattle.hlc_causality.specs.declared.event_rule.TheConstants.{MAX_FLOOR_C}
@@ -10,6 +10,7 @@ use Rattle.hlc_causality.specs.LeastFeasible.{greater, next_pair}
 use Rattle.hlc_causality.specs.ReceiveEvents.{receive_event}
 use Rattle.hlc_log.specs.declared.log_event.LogEvent.{LogEvent}
 use Rattle.hlc_log.specs.declared.log_event.LogKind.{LogKind}
+use Rattle.hlc_log.specs.declared.log_event.TheConstants.{MAX_LOG_NODES}
 use Rattle.hlc_log.specs.declared.log_event.LogKind.TheVariants.{Local, Outside, Receive, Restart, Send}
 
 -- what event_at answers past the end
@@ -35,9 +36,9 @@ IsMessageBelow n (Receive message) = message.0 < n
 IsMessageBelow n Restart = Unit {0}
 IsMessageBelow n Outside = Unit {0}
 
--- an event is of a node below MAX_NODES, and its message, if it has one, is one of the first so many
+-- an event is of a node below MAX_LOG_NODES, and its message, if it has one, is one of the first so many
 pub record IsNumbered (messages : ℕ) (event : LogEvent) : Type 0 where
-  pub node : event.node.0 < MAX_NODES
+  pub node : event.node.0 < MAX_LOG_NODES
   pub message : IsMessageBelow messages event.kind
 
 -- a receive with a reading, as the clocks read it

@@ -6,8 +6,11 @@ pub mod Log
 pub mod Messages
 pub mod OrderSkeleton
 pub mod Placing
+pub mod ReceiveLinks
 pub mod Reordering
+pub mod Resent
 pub mod SendLinks
 pub mod Senders
 pub mod Slots
+pub mod Turns
 pub mod Unsent

@@ -1,18 +1,24 @@
 -- Events that have their place in an order, and where each node goes on.
-use Rattle.std.specs.Prelude.{◌≡◌, ◌≢◌, ◌↔◌, ℕ, ◌+◌, ◌<◌, ◌≤◌, Contains, Option, Some, None, List, length, if◌then◌else◌, nat_le}
+use Rattle.std.specs.Prelude.{◌≡◌, ◌≢◌, ◌↔◌, ℕ, ◌+◌, ◌<◌, ◌≤◌, ◌⊎◌, Contains, Option, Some, None, List, length, if◌then◌else◌, nat_le}
 use Rattle.hlc_stamp.specs.declared.id.EventId.{EventId}
-use Rattle.hlc_stamp.specs.declared.limits.TheConstants.{MAX_NODES}
+use Rattle.hlc_stamp.specs.declared.id.NodeId.{NodeId}
 use Rattle.hlc_stamp.specs.Ids.{places_of}
 use Rattle.hlc_log.specs.declared.log_event.LogEvent.{LogEvent}
 use Rattle.hlc_log.specs.declared.placing.Placing.{Placing}
+use Rattle.hlc_log.specs.declared.turns.Turns.{Turns}
 use Rattle.hlc_log.specs.CausalOrder.{IsCausalPrefix}
 use Rattle.hlc_log.specs.Events.{event_at}
 use Rattle.hlc_log.specs.Messages.{SendsTo}
 use Rattle.hlc_log.specs.SendLinks.{link_at}
+use Rattle.hlc_log.specs.Turns.{HasTurn}
 
 -- the node of the event at a place
 abbrev pub node_at : List LogEvent → ℕ → ℕ
 node_at events e = (event_at events e).node.0
+
+-- each event is of one of the first n nodes
+abbrev pub AreNodesBelow : List LogEvent → ℕ → Type 0
+AreNodesBelow events n = (e : ℕ) → e < length events → node_at events e < n
 
 -- g is the first event of a node from low on
 pub record IsFirstFrom (events : List LogEvent) (low node g : ℕ) : Type 0 where
@@ -29,9 +35,9 @@ LinksToFirst events low node (Some g) = IsFirstFrom events low node g.0
 -- from low on, each event has a link to the next of its node, and each node one to its first
 pub record AreNodesLinked (events : List LogEvent) (low : ℕ) (next fronts : List (Option EventId)) : Type 0 where
   pub len : length next ≡ length events
-  pub nodes : length fronts ≡ MAX_NODES
+  pub nodes : AreNodesBelow events (length fronts)
   pub each_next : (e : ℕ) → low ≤ e → e < length events → LinksToFirst events (e + 1) (node_at events e) (link_at next e)
-  pub each_front : (node : ℕ) → node < MAX_NODES → LinksToFirst events low node (link_at fronts node)
+  pub each_front : (node : ℕ) → node < length fronts → LinksToFirst events low node (link_at fronts node)
 
 -- f comes before the event at which its node goes on
 abbrev pub IsBefore : Option EventId → ℕ → Type 0
@@ -55,15 +61,15 @@ LinksToFront events node (Some e) = IsFrontOf events node e.0
 -- what is true while events get their places: the order is causal, and has exactly the events that were passed
 pub record ArePlaced (events : List LogEvent) (next fronts : List (Option EventId)) (order : List ℕ) : Type 0 where
   pub len : length next ≡ length events
-  pub nodes : length fronts ≡ MAX_NODES
+  pub nodes : AreNodesBelow events (length fronts)
   pub each_next : (e : ℕ) → e < length events → LinksToFirst events (e + 1) (node_at events e) (link_at next e)
-  pub each_front : (node : ℕ) → node < MAX_NODES → LinksToFront events node (link_at fronts node)
+  pub each_front : (node : ℕ) → node < length fronts → LinksToFront events node (link_at fronts node)
   pub causal : IsCausalPrefix events order
   pub placed : (f : ℕ) → f < length events → Contains order f ↔ IsPassed events fronts f
 
 -- so it is of the order that a placing has made so far
 abbrev pub IsPlacing : List LogEvent → Placing → Type 0
-IsPlacing events placing = ArePlaced events placing.next.items placing.fronts (places_of placing.order.items)
+IsPlacing events placing = ArePlaced events placing.next.items placing.fronts.items (places_of placing.order.items)
 
 -- whatever sends what e receives has its place
 abbrev pub IsReady : List LogEvent → List (Option EventId) → ℕ → Type 0
@@ -82,7 +88,29 @@ IsNodeBlocked events fronts (Some e) = IsBlocked events fronts e.0
 
 -- so it is at each node
 abbrev pub AreAllBlocked : List LogEvent → List (Option EventId) → Type 0
-AreAllBlocked events fronts = (node : ℕ) → node < MAX_NODES → IsNodeBlocked events fronts (link_at fronts node)
+AreAllBlocked events fronts = (node : ℕ) → node < length fronts → IsNodeBlocked events fronts (link_at fronts node)
+
+-- a node has a turn, or can't go on
+abbrev pub HasTurnOrWaits : List LogEvent → List (Option EventId) → Turns → NodeId → Type 0
+HasTurnOrWaits events fronts turns node = HasTurn turns node ⊎ IsNodeBlocked events fronts (link_at fronts node.0)
+
+-- turns are of nodes that there are
+abbrev pub AreTurnsBelow : ℕ → Turns → Type 0
+AreTurnsBelow nodes turns = (node : NodeId) → HasTurn turns node → node.0 < nodes
+
+-- what is true of them while events get their places: each node that can go on has one
+pub record AreTurns (events : List LogEvent) (fronts : List (Option EventId)) (turns : Turns) : Type 0 where
+  pub below : AreTurnsBelow (length fronts) turns
+  pub each : (node : NodeId) → node.0 < length fronts → HasTurnOrWaits events fronts turns node
+
+-- so does each but this one
+pub record AreTurnsBeside (events : List LogEvent) (fronts : List (Option EventId)) (turns : Turns) (this : NodeId) : Type 0 where
+  pub below : AreTurnsBelow (length fronts) turns
+  pub each : (node : NodeId) → node.0 < length fronts → node ≢ this → HasTurnOrWaits events fronts turns node
+
+-- an event at which its node goes on has its node's turn
+abbrev pub IsWoken : List LogEvent → List (Option EventId) → Turns → ℕ → Type 0
+IsWoken events fronts turns e = link_at fronts (node_at events e) ≡ Some (record { 0 = e }) → HasTurn turns (event_at events e).node
 
 -- the earlier of two events, or the one that there is
 abbrev pub first_of : Option EventId → Option EventId → Option EventId

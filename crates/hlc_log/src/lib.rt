@@ -16,11 +16,13 @@
 //!   they tell what was carried, and else, if asked, as local events. [`UnsentCounts`] says how many there were.
 //! - [`tell_apart`] tells messages without a name apart, for logs in which a receive names the node that sent its message, and the stamp that
 //!   this carried: it receives the first message that this node sends with that claimed stamp, wherever in the log that is, or comes from outside.
+//! - [`take_resent`] tells the sends of a message that is sent again apart, for logs of services that retry: each after the first gets a message
+//!   of its own, and each receive is of the send whose stamp its message carried, or else, as is asked, of the first or of the latest before it.
 //! - `laws` says that stamps, chains and drifts don't depend on the order, and that a fault leaves none.
 //!
 //! It reads no text and numbers no names: the caller says which node, and which message by its number. It looks at no claimed
-//! stamp but that of a restart, at no carried one but that of a message from outside, and at both where a receive names its sender; it
-//! computes none.
+//! stamp but that of a restart, at no carried one but that of a message from outside, and at both where a receive names its sender, or its
+//! message is sent again; it computes none.
 //!
 //! A first caller, proved in `hlc_log_examples`: a log tells of a receive before its send, and in a causal order the send comes first.
 //!
@@ -30,8 +32,8 @@
 //!     receive: LogEvent,
 //!     send: LogEvent,
 //! ) -> Result<Vec<EventId>, OrderFault>
-//!     requires receive { (receive.node.0 < MAX_NODES) × (receive.kind ≡ LogKind.Receive (record { 0 = 0 })) }
-//!     requires send { (send.node.0 < MAX_NODES) × (send.kind ≡ LogKind.Send (record { 0 = 0 })) }
+//!     requires receive { (receive.node.0 < MAX_LOG_NODES) × (receive.kind ≡ LogKind.Receive (record { 0 = 0 })) }
+//!     requires send { (send.node.0 < MAX_LOG_NODES) × (send.kind ≡ LogKind.Send (record { 0 = 0 })) }
 //!     ensures { IfOk result (λ order. place_at (places_of order.items) 0 ≡ 1) }
 //! {
 //!     let mut log = Log::new(alloc);
@@ -51,16 +53,20 @@ mod message_id;
 mod order;
 mod order_fault;
 mod placing;
+mod receive_links;
+mod resent;
 mod senders;
 mod sends;
 mod slot;
+mod turns;
 mod unsent;
 mod unsent_counts;
 
 pub use log::Log;
-pub use log_event::{LogEvent, LogKind};
+pub use log_event::{LogEvent, LogKind, MAX_LOG_NODES};
 pub use message_id::MessageId;
 pub use order::causal_order;
 pub use order_fault::OrderFault;
+pub use resent::{Resent, take_resent};
 pub use senders::tell_apart;
 pub use unsent_counts::UnsentCounts;

@@ -1,4 +1,4 @@
-ghost use Rattle.std.specs.Prelude.{◌≡◌, ℕ, ◌<◌, ◌≤◌, ◌↔◌, [], ◌∷◌, ◌++◌, All, IfOk, IfSome, IsNone, IsTrue, OnErr, OnOk, false, length, slice_set};
+ghost use Rattle.std.specs.Prelude.{◌≡◌, ℕ, ◌<◌, ◌≤◌, ◌↔◌, [], ◌∷◌, ◌++◌, All, IfOk, IfSome, IsNone, IsTrue, None, OnErr, OnOk, false, length, slice_set};
 ghost use Rattle.hlc_log.specs.Events.{IsInRange, IsNumbered, event_at, of_kind, with_stamp};
 ghost use Rattle.hlc_log.specs.Messages.{ReceivesUnsent};
 ghost use Rattle.hlc_log.specs.Slots.{stored_event};
@@ -144,6 +144,13 @@ impl Log {
         ensures { result ≡ (event_at self.now.events place.0).carried }
     {
         self.carried.at(place.0 as usize)
+    }
+
+    // Whether it tells what some message carried.
+    pub(crate) fn tells_carried(&self) -> bool
+        ensures { result ≡ false → (place : ℕ) → (event_at self.now.events place).carried ≡ None }
+    {
+        !self.carried.is_empty()
     }
 
     /// Gives the event at a place a stamp. The log tells none.

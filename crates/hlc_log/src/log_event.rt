@@ -5,6 +5,9 @@ use crate::message_id::MessageId;
 use hlc_causality::{EventRule, Receives};
 use hlc_stamp::{NodeId, Stamp};
 
+/// The greatest number of nodes of a log: as many as fit a `u16`.
+pub const MAX_LOG_NODES: u16 = 65_535;
+
 /// An event of another system, as a log tells of it.
 #[derive(Clone, Copy)]
 pub struct LogEvent {

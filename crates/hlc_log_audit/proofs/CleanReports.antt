@@ -22,7 +22,7 @@ use Rattle.hlc_log_report.proofs.Ordering.{claimed_at, order_len}
 use Rattle.hlc_log_text.specs.StampForms.{greatest_c}
 use Rattle.hlc_log_audit.specs.Audit.{BreaksOrder, ClaimsOver, ExceedsLimit, IsBroken, IsOutOfOrder}
 use Rattle.hlc_log_audit.specs.Laws.{LeastStampsAreSound, LeastStampsReportClean}
-use Rattle.hlc_log_audit.specs.Report.{AreCauses, cause_rows, cause_rows_at, count_row, count_rows, joined, message_row, node_rows, wrong_row}
+use Rattle.hlc_log_audit.specs.Report.{AreCauses, cause_rows, cause_rows_at, count_row, count_rows, message_row, node_rows, wrong_row}
 use Rattle.hlc_log_audit.specs.declared.outcome.Outcome.TheVariants as outcome
 use Rattle.hlc_log_audit.proofs.CauseRows.{no_rows}
 use Rattle.hlc_log_audit.proofs.EventsInOrder.{same_causes}
@@ -68,7 +68,7 @@ module _ (log : LogInOrder) (ordered : IsInOrder log) (same : claimed_of log ≡
 
 pub least_stamps_report_clean : LeastStampsReportClean
 least_stamps_report_clean nodes log full rows ordered same right report =
-    let rest : List Fields → List Fields = λ causes. causes ++ (node_rows nodes log ++ (message_row (message_counts log) ∷ joined report.skews)) in
+    let rest : List Fields → List Fields = λ causes. causes ++ (node_rows nodes log ++ (message_row (message_counts log) ∷ report.skews)) in
     record {
       skews = report.skews;
       are_skews = report.are_skews;

@@ -2,10 +2,11 @@
 use Rattle.std.proofs.Common.{◌≡◌, ◌∙◌, Bool, true, false, cond, ℕ, ◌<◌, inl, inr, List, length, Option, Some, None, arith, refl, subst, sym, ap}
 use Rattle.std.specs.Prelude.{IfSome}
 use Rattle.std.proofs.lemmas.Bool.{cases_Bool}
+use Rattle.std.proofs.lemmas.List.Elements.{All-get_or}
 use Rattle.hlc_stamp.specs.declared.id.EventId.{EventId}
 use Rattle.hlc_stamp.specs.Order.{Pair}
 use Rattle.hlc_causality.specs.Assignment.{pair_at}
-use Rattle.hlc_causality.specs.Causality.{IsPrevious, IsSendOf, Skeleton}
+use Rattle.hlc_causality.specs.Causality.{IsPrevious, IsSendOf, Skeleton, SkeletonEvent, skeleton_at}
 use Rattle.hlc_causality.specs.ClockEvents.{ClockEvents, clock_event_at, clock_skeleton}
 use Rattle.hlc_causality.specs.Predecessors.{previous_of, send_of}
 use Rattle.hlc_causality.proofs.ClockEvents.{skeleton_size}
@@ -17,7 +18,9 @@ use Rattle.hlc_causes.specs.declared.answers.Cause.TheVariants as cause
 use Rattle.hlc_causes.specs.Verdicts.{follows, if_not_above}
 use Rattle.hlc_causes.proofs.Disorder.{some_is_so}
 use Rattle.hlc_log.specs.CausalOrder.{place_at}
-use Rattle.hlc_log.proofs.OrderSkeletons.{same_position}
+use Rattle.hlc_log.specs.Events.{no_event}
+use Rattle.hlc_log.specs.declared.log_event.LogEvent.{LogEvent}
+use Rattle.hlc_log.proofs.OrderSkeletons.{place_exists, same_position, skeleton_in_at}
 use Rattle.hlc_log_report.specs.Found.{NamesCausesIn}
 use Rattle.hlc_log_report.specs.InOrder.{IsInOrder, LogInOrder, carried_of, claimed_of, clocks_of, reading_told, seen_of, skeleton_of, stamp_told, wrong_of}
 use Rattle.hlc_log_report.proofs.Found.{all_if_told, none_if_untold, told_has_all, untold_has_none}
@@ -78,6 +81,15 @@ module _ (log : LogInOrder) (full k : ℕ) (exists : k < length (clocks_of log))
   ]
 
 module _ (log : LogInOrder) (ordered : IsInOrder log) where
+  -- an event is of one of the log's nodes
+  pub node_exists : (k : ℕ) → k < length log.events → (skeleton_at (skeleton_of log) k).node < log.nodes
+  node_exists k exists =
+      let within : k < length log.order = omega (arith, order_len log.events log.order ordered.causal) in
+      let place = place_at log.order k in
+      subst (λ (event : SkeletonEvent). event.node < log.nodes) (sym (skeleton_in_at log.events log.order ordered.causal k within))
+      (All-get_or (λ (event : LogEvent). event.node.0 < log.nodes) log.events place no_event
+      (place_exists log.events log.order ordered.causal k within) ordered.of_nodes)
+
   -- the answer for a position is that for its place
   pub names_causes_at : (full e p : ℕ) (found : Causes) → p < length log.events → place_at log.order p ≡ e
       → NamesCausesIn log full p found → NamesCausesAt log full e found

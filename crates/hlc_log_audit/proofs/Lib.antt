@@ -15,7 +15,6 @@ pub mod SameAnswers
 pub mod SameAudits
 pub mod SameOutcomes
 pub mod SameReports
-pub mod SkewRows
 pub mod Tallies
 pub mod Telling
 pub mod ToldDrifts

@@ -5,7 +5,6 @@ use Rattle.std.proofs.lemmas.Bool.{and_from, and_parts, cases_Bool, cases_eq, ca
 use Rattle.std.proofs.lemmas.List.{get_or-replicate, get_or-set_other, get_or-set_same, length-replicate, length-set, length-take}
 use Rattle.std.proofs.lemmas.List.Sums.{count_by-le-length, count_by_more_no, count_by_more_yes}
 use Rattle.hlc_stamp.specs.declared.id.EventId.{EventId}
-use Rattle.hlc_stamp.specs.declared.limits.TheConstants.{MAX_NODES}
 use Rattle.hlc_log.specs.Events.{event_at, no_event}
 use Rattle.hlc_log.specs.declared.log_event.LogEvent.{LogEvent}
 use Rattle.hlc_log_audit.specs.OverLimit.{AreOversBefore, IsOverAt, IsOverBefore, NamesOverBefore, claimed_ahead, is_over, over_count, with_claim}
@@ -50,10 +49,10 @@ module _ (limit : ℕ) (events : List LogEvent) where
   none_over : (node : ℕ) → NamesOverBefore limit events 0 node None
   none_over node = (let few = few_over 0 node in omega arith, λ e at. let before = at.before in absurd (omega arith))
 
-  pub overs_begin : AreOversBefore limit events 0 (replicate 64 None)
-  overs_begin = let nothing : Option Over = None in record {
-    nodes = length-replicate 64 nothing;
-    each = λ node small. subst (NamesOverBefore limit events 0 node) (sym (get_or-replicate 64 node nothing nothing small)) (none_over node);
+  pub overs_begin : (nodes : ℕ) → AreOversBefore limit nodes events 0 (replicate nodes None)
+  overs_begin nodes = let nothing : Option Over = None in record {
+    one_each = length-replicate nodes nothing;
+    each = λ node small. subst (NamesOverBefore limit events 0 node) (sym (get_or-replicate nodes node nothing nothing small)) (none_over node);
   }
 
   -- an event more
@@ -163,14 +162,14 @@ module _ (limit : ℕ) (events : List LogEvent) where
       over_with (Some over) is = one_more over is
 
     -- the answers for all nodes
-    module _ (exists : place.0 < length events) (ahead : ℕ) (is_ahead : ahead ≡ claimed_ahead (event_at events place.0)) where
+    module _ (nodes : ℕ) (exists : place.0 < length events) (ahead : ℕ) (is_ahead : ahead ≡ claimed_ahead (event_at events place.0)) where
       abbrev event : LogEvent
       event = event_at events place.0
 
-      pub overs_without : (overs : List (Option Over)) → ahead ≤ limit → AreOversBefore limit events place.0 overs
-          → AreOversBefore limit events (place.0 + 1) overs
+      pub overs_without : (overs : List (Option Over)) → ahead ≤ limit → AreOversBefore limit nodes events place.0 overs
+          → AreOversBefore limit nodes events (place.0 + 1) overs
       overs_without overs within are = record {
-        nodes = are.nodes;
+        one_each = are.one_each;
         each = λ node small.
             over_without node (λ at. let over = at.over in omega arith)
             (count_by_more_no (is_over limit node) events place.0 no_event exists
@@ -178,14 +177,14 @@ module _ (limit : ℕ) (events : List LogEvent) where
             (slice_index_or overs node None) (are.each node small);
       }
 
-      pub overs_with : (overs : List (Option Over)) (node : ℕ) → node ≡ event.node.0 → node < MAX_NODES → limit < ahead
-          → AreOversBefore limit events place.0 overs
-          → AreOversBefore limit events (place.0 + 1) (slice_set overs node (Some (with_claim (slice_index_or overs node None) place ahead)))
+      pub overs_with : (overs : List (Option Over)) (node : ℕ) → node ≡ event.node.0 → node < nodes → limit < ahead
+          → AreOversBefore limit nodes events place.0 overs
+          → AreOversBefore limit nodes events (place.0 + 1) (slice_set overs node (Some (with_claim (slice_index_or overs node None) place ahead)))
       overs_with overs node at small above are =
-          let size = are.nodes in
+          let size = are.one_each in
           let new = Some (with_claim (slice_index_or overs node None) place ahead) in
           record {
-            nodes = length-set overs node new ∙ size;
+            one_each = length-set overs node new ∙ size;
             each = λ other within. elim (cases_eq other node) [
               | inl same ↦
                   subst (λ (x : ℕ). NamesOverBefore limit events (place.0 + 1) x (slice_index_or (slice_set overs node new) x None)) (sym same)

@@ -1,7 +1,6 @@
 -- The rows of claims over a limit.
 use Rattle.std.proofs.Common.{◌≡◌, ◌∙◌, ℕ, ◌<◌, ◌≤◌, List, [], ◌∷◌, Option, Some, None, length, map, ap, arith, refl, subst, sym}
 use Rattle.std.specs.Prelude.{IfSome, codes, decimal, slice_index_or}
-use Rattle.hlc_stamp.specs.declared.limits.TheConstants.{MAX_NODES}
 use Rattle.hlc_csv.specs.Rows.{Fields, field_of}
 use Rattle.hlc_log.specs.Events.{event_at}
 use Rattle.hlc_log.specs.CausalOrder.{place_at}
@@ -39,7 +38,7 @@ origin_is log place k e rest ordered rise exists within at way =
     ∙ ap (λ (events : List ℕ). field_of (map decimal (map (line_in log) events)) 0) way
 
 -- one log has the same rows in two causal orders
-module _ (nodes : List (List ℕ)) (log other : LogInOrder) (few : length nodes ≤ MAX_NODES) (ordered : IsInOrder log) (other_ordered : IsInOrder other)
+module _ (nodes : List (List ℕ)) (log other : LogInOrder) (ordered : IsInOrder log) (other_ordered : IsInOrder other)
     (clocks : other.receives ≡ log.receives) (same : other.events ≡ log.events) (rise : LinesRise log.events) where
   same_origin : (line : ℕ) → origin_field other line ≡ origin_field log line
   same_origin line =
@@ -62,12 +61,12 @@ module _ (nodes : List (List ℕ)) (log other : LogInOrder) (few : length nodes 
       → others ≡ rows
   same_over_rows None rows others is other_is = other_is ∙ sym is
   same_over_rows (Some limit) rows others (overs, are, is) (other_overs, other_are, other_is) =
-      let there : AreOvers limit log.events other_overs = subst (λ (events : List LogEvent). AreOvers limit events other_overs) same other_are in
+      let there : AreOvers limit (length nodes) log.events other_overs = subst (λ (events : List LogEvent). AreOvers limit (length nodes) events other_overs) same other_are in
       other_is
       ∙ flat_map-same (λ (node : ℕ). over_row nodes other node (slice_index_or other_overs node None))
       (λ (node : ℕ). over_row nodes log node (slice_index_or overs node None)) (length nodes) (λ node lt.
       same_row node (slice_index_or other_overs node None)
       ∙ ap (over_row nodes log node)
       (same_over limit log.events (length log.events) node (slice_index_or other_overs node None) (slice_index_or overs node None)
-      (there.each node (omega arith)) (are.each node (omega arith))))
+      (there.each node lt) (are.each node lt)))
       ∙ sym is

@@ -56,6 +56,14 @@ adds_row_of_place a b c old mid new row n h t =
     subst (λ (all : List Fields). AddsText a c old new (text_of all)) (sym more)
     (adds_joined a b c old mid new (map row (places_below n)) (row n ∷ []) h (adds_one b c mid new (row n) t))
 
+-- the row of one thing more
+pub adds_row : {A : Type 0} (a b c : Option (List ℕ)) (old mid new : List ℕ) (row : A → Fields) (before : List A) (x : A)
+    → AddsText a b old mid (text_of (map row before)) → AddsText b c mid new (text_of_row (row x))
+    → AddsText a c old new (text_of (map row (before ++ x ∷ [])))
+adds_row a b c old mid new row before x h t =
+    subst (λ (all : List Fields). AddsText a c old new (text_of all)) (sym (map-append row before (x ∷ [])))
+    (adds_joined a b c old mid new (map row before) (row x ∷ []) h (adds_one b c mid new (row x) t))
+
 -- rows depend on what stands at their places alone
 pub flat_map-same : (rows other : ℕ → List Fields) (n : ℕ) → ((k : ℕ) → k < n → rows k ≡ other k)
     → flat_map rows (places_below n) ≡ flat_map other (places_below n)

@@ -1,7 +1,6 @@
 -- Two audits of one log leave the same.
 use Rattle.std.proofs.Common.{◌≡◌, ◌∙◌, ◌⊎◌, Bool, true, false, ℕ, ◌≤◌, inl, inr, List, [], ◌∷◌, ◌++◌, length, Option, Some, append-nil, arith, refl, subst, sym, ap}
 use Rattle.std.proofs.lemmas.Bool.{cases_order}
-use Rattle.hlc_stamp.specs.declared.limits.TheConstants.{MAX_NODES}
 use Rattle.hlc_csv.specs.Rows.{Fields, text_of}
 use Rattle.hlc_log.specs.declared.log_event.LogEvent.{LogEvent}
 use Rattle.hlc_log.specs.declared.order_fault.OrderFault.{OrderFault}
@@ -12,6 +11,7 @@ use Rattle.hlc_log.specs.Faults.{IsFaultOf, IsFirst}
 use Rattle.hlc_log.specs.Messages.{ReceivesUnsent, SendsAgain}
 use Rattle.hlc_log.proofs.Agreement.{faults_leave_no_order}
 use Rattle.hlc_log_text.specs.Question.{Asked}
+use Rattle.hlc_log_text.specs.declared.bad_log.BadLine.{BadLine}
 use Rattle.hlc_log_text.specs.declared.log_text.LogText.{LogText}
 use Rattle.hlc_log_text.specs.declared.question.LogQuestion.{LogQuestion}
 use Rattle.hlc_log_text.specs.declared.skipped.Skipped.{Skipped}
@@ -22,15 +22,16 @@ use Rattle.hlc_log_report.proofs.GivenStamps.{filled_twice}
 use Rattle.hlc_log_report.proofs.Rearranged.{given_stamps_agree, one_log, tell_the_same}
 use Rattle.hlc_open_log.specs.Opened.{LinesRise}
 use Rattle.hlc_log_audit.proofs.SameAnswers.{answers_agree}
-use Rattle.hlc_open_log.specs.Opened.{OpenedLog, opened_events}
+use Rattle.hlc_open_log.specs.Opened.{OpenedLog, opened_events, resent_apart}
 use Rattle.hlc_open_log.proofs.OpenedLogs.{no_memory, one_text}
-use Rattle.hlc_log_audit.specs.Audit.{IsReportIf, is_reported, AreRowsTold, IsDisorderShown, IsTextAudited, IsTold, all_asked, missing_rows, unsent_row}
+use Rattle.hlc_log_audit.specs.LeftOut.{left_out_rows}
+use Rattle.hlc_log_audit.specs.Audit.{IsReportIf, is_reported, AreRowsTold, IsDisorderShown, IsTextAudited, IsTold, all_asked, missing_rows, taken_rows}
 use Rattle.hlc_log_audit.specs.Laws.{AuditsAgree}
 use Rattle.hlc_log_audit.specs.Report.{AreOverRows, IsReport}
 use Rattle.hlc_log_audit.specs.declared.outcome.Outcome.{Outcome}
 use Rattle.hlc_log_audit.specs.declared.outcome.Outcome.TheVariants as outcome
 use Rattle.hlc_log_audit.specs.declared.rules.AuditRules.{AuditRules}
-use Rattle.hlc_open_log.proofs.LinesKept.{rise_filled, rise_kept}
+use Rattle.hlc_open_log.proofs.LinesKept.{rise_apart, rise_filled, rise_kept}
 use Rattle.hlc_log_audit.proofs.OverRows.{same_over_rows}
 use Rattle.hlc_log_audit.proofs.SameOutcomes.{outcomes_agree}
 use Rattle.hlc_log_audit.proofs.SameReports.{reports_agree}
@@ -79,7 +80,7 @@ no_answers nodes labels log full (row ∷ rows) are = absurd are
 
 pub told_report : (opened : OpenedLog) (rules : AuditRules) (asked : List Asked) (rows : List Fields) → asked ≡ [] → AreRowsTold opened rules asked rows
     → (report over : List Fields) × IsReport opened.nodes opened.log opened.full report × AreOverRows opened.nodes opened.log rules.limit over
-    × (rows ≡ ((report ++ unsent_row opened.unsent) ++ missing_rows opened.log.events opened.skipped) ++ over)
+    × (rows ≡ (((report ++ taken_rows opened.unsent opened.resent) ++ missing_rows opened.log.events opened.skipped) ++ left_out_rows opened.left_out) ++ over)
 told_report opened rules asked rows nothing told =
     let alone : AreRowsTold opened rules [] rows = subst (λ (questions : List Asked). AreRowsTold opened rules questions rows) nothing told in
     let reported = alone.is_report in (
@@ -94,19 +95,20 @@ told_report opened rules asked rows nothing told =
     )
 
 -- one report, if it is to be written, and one list of answers
-module _ (nodes : List (List ℕ)) (labels : List (ℕ × List ℕ)) (log other : LogInOrder) (full : ℕ) (few : length nodes ≤ MAX_NODES)
+module _ (nodes : List (List ℕ)) (labels : List (ℕ × List ℕ)) (log other : LogInOrder) (full : ℕ)
     (ordered : IsInOrder log) (other_ordered : IsInOrder other) (clocks : other.receives ≡ log.receives)
     (same : other.events ≡ log.events) (rise : LinesRise log.events) where
-  one_report : (is_told : Bool) (unsent : Option ℕ) (skipped : Option Skipped) (limit : Option ℕ) (rows others : List Fields)
-      → IsReportIf is_told nodes log full unsent skipped limit rows → IsReportIf is_told nodes other full unsent skipped limit others → others ≡ rows
-  one_report false unsent skipped limit rows others is other_is = other_is ∙ sym is
-  one_report true unsent skipped limit rows others (report, over, is_report, are_over, is) (other_report, other_over, other_is_report, other_are_over, other_is) =
+  one_report : (is_told : Bool) (unsent resent : Option ℕ) (skipped : Option Skipped) (left_out : List BadLine) (limit : Option ℕ) (rows others : List Fields)
+      → IsReportIf is_told nodes log full unsent resent skipped left_out limit rows → IsReportIf is_told nodes other full unsent resent skipped left_out limit others
+      → others ≡ rows
+  one_report false unsent resent skipped left_out limit rows others is other_is = other_is ∙ sym is
+  one_report true unsent resent skipped left_out limit rows others (report, over, is_report, are_over, is) (other_report, other_over, other_is_report, other_are_over, other_is) =
       other_is
-      ∙ ap (λ (r : List Fields). ((r ++ unsent_row unsent) ++ missing_rows other.events skipped) ++ other_over)
-      (reports_agree nodes log other full report other_report few ordered other_ordered clocks same is_report other_is_report)
-      ∙ ap (λ (events : List LogEvent). ((report ++ unsent_row unsent) ++ missing_rows events skipped) ++ other_over) same
-      ∙ ap (λ (r : List Fields). ((report ++ unsent_row unsent) ++ missing_rows log.events skipped) ++ r)
-      (same_over_rows nodes log other few ordered other_ordered clocks same rise limit over other_over are_over other_are_over)
+      ∙ ap (λ (r : List Fields). (((r ++ taken_rows unsent resent) ++ missing_rows other.events skipped) ++ left_out_rows left_out) ++ other_over)
+      (reports_agree nodes log other full report other_report ordered other_ordered clocks same is_report other_is_report)
+      ∙ ap (λ (events : List LogEvent). (((report ++ taken_rows unsent resent) ++ missing_rows events skipped) ++ left_out_rows left_out) ++ other_over) same
+      ∙ ap (λ (r : List Fields). (((report ++ taken_rows unsent resent) ++ missing_rows log.events skipped) ++ left_out_rows left_out) ++ r)
+      (same_over_rows nodes log other ordered other_ordered clocks same rise limit over other_over are_over other_are_over)
       ∙ sym is
 
   same_answers : (questions : List Asked) (rows others : List Fields) → AreAnswers nodes labels log full questions rows
@@ -120,10 +122,10 @@ module _ (nodes : List (List ℕ)) (labels : List (ℕ × List ℕ)) (log other 
       ap (λ (r : Fields). r ∷ others) (answers_agree nodes labels log other full question row other_row ordered other_ordered clocks same rise are.0 others_are.0)
       ∙ ap (λ (rs : List Fields). row ∷ rs) (same_answers questions rows others are.1 others_are.1)
 
-module _ (text : LogText) (rules : AuditRules) (asked : List LogQuestion) (few : length text.nodes ≤ MAX_NODES)
+module _ (text : LogText) (rules : AuditRules) (asked : List LogQuestion)
     (rise : LinesRise text.log.events) (before after others : List ℕ) where
   abbrev events : List LogEvent
-  events = opened_events rules.records text.log.events
+  events = opened_events rules.records text.messages text.log.events
 
   abbrev IsBad : List ℕ → Type 0
   IsBad bytes = IsDisorderShown events (Some before) (Some bytes)
@@ -164,18 +166,18 @@ module _ (text : LogText) (rules : AuditRules) (asked : List LogQuestion) (few :
       let same : other.events ≡ log.events =
       given_stamps_agree events log other clocks is.in_order other_is.in_order is.filled other_is.filled in
       let one = one_log log other clocks is.in_order other_is.in_order same in
-      let few_here : length opened.nodes ≤ MAX_NODES = rw told.is_opened.nodes few in
-      let log_rise : LinesRise log.events = rise_filled events log.events is.filled (rise_kept rules.records.unsent_local text.log.events rise) in
+      let log_rise : LinesRise log.events = rise_filled events log.events is.filled (rise_kept rules.records.unsent_local
+      (resent_apart rules.records.resent text.messages text.log.events) (rise_apart rules.records.resent text.messages text.log.events rise)) in
       let first = told.told in
       let second : AreRowsTold (record opened { log = other }) rules (all_asked opened.questions asked) other_told.rows =
       subst (λ (o : OpenedLog). AreRowsTold o rules (all_asked o.questions asked) other_told.rows)
       (opened_alike rules.records text opened other_told.opened told.is_opened other_told.is_opened) other_told.told in
       let questions = all_asked opened.questions asked in
       let report =
-      one_report opened.nodes opened.labels log other opened.full few_here is.in_order other_is.in_order clocks same log_rise (is_reported rules questions)
-      opened.unsent opened.skipped rules.limit first.report second.report first.is_report second.is_report in
+      one_report opened.nodes opened.labels log other opened.full is.in_order other_is.in_order clocks same log_rise (is_reported rules questions)
+      opened.unsent opened.resent opened.skipped opened.left_out rules.limit first.report second.report first.is_report second.is_report in
       let answers =
-      same_answers opened.nodes opened.labels log other opened.full few_here is.in_order other_is.in_order clocks same log_rise questions
+      same_answers opened.nodes opened.labels log other opened.full is.in_order other_is.in_order clocks same log_rise questions
       first.answers second.answers first.are_answers second.are_answers in
       let rows : other_told.rows ≡ told.rows =
       second.rows_are ∙ ap (λ (r : List Fields). r ++ second.answers) report ∙ ap (λ (r : List Fields). first.report ++ r) answers
@@ -192,7 +194,7 @@ module _ (text : LogText) (rules : AuditRules) (asked : List LogQuestion) (few :
   both_left result other_result (inr bad) (inr other_bad) = (other_bad.0 ∙ sym bad.0, bad_bytes bad.1 other_bad.1)
 
 pub audits_agree : AuditsAgree
-audits_agree text rules asked before after others result other_result few rise left other_left =
-    both_left text rules asked few rise before after others result other_result
-    (told_or_bad text rules asked few rise before after others after result left)
-    (told_or_bad text rules asked few rise before after others others other_result other_left)
+audits_agree text rules asked before after others result other_result rise left other_left =
+    both_left text rules asked rise before after others result other_result
+    (told_or_bad text rules asked rise before after others after result left)
+    (told_or_bad text rules asked rise before after others others other_result other_left)

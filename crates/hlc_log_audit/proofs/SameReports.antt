@@ -1,16 +1,18 @@
 -- The reports on logs with the same events in different orders.
-use Rattle.std.proofs.Common.{◌≡◌, Bool, true, false, ◌∙◌, ℕ, ◌==◌, ◌<◌, ◌≤◌, inl, inr, List, [], ◌∷◌, ◌++◌, length, map, Option, Some, None, arith, refl, subst, sym, ap}
-use Rattle.std.specs.Prelude.{◌-ℤ◌, IfSome, codes, decimal, option_map, pos, slice_index_or}
+use Rattle.std.proofs.Common.{◌≡◌, Bool, true, false, ◌∙◌, ℕ, suc, ◌+◌, ◌==◌, ◌<◌, inl, inr, List, [], ◌∷◌, ◌++◌, length, map, Option, Some, None, arith, refl, subst, sym, ap}
+use Rattle.std.specs.Prelude.{◌-ℤ◌, All, IfSome, codes, decimal, option_map, pos, slice_index_or}
 use Rattle.std.specs.Bool.{then_some}
 use Rattle.std.specs.Fmt.{signed_decimal}
 use Rattle.std.specs.List.{flat_map}
-use Rattle.std.specs.List.Sorted.{IsPermutation}
+use Rattle.std.specs.List.Sorted.{IsPermutation, IsStrictlySortedBy}
+use Rattle.std.specs.Map.{keys_of, values_of}
 use Rattle.std.proofs.lemmas.Bool.{cases_order}
-use Rattle.std.proofs.lemmas.List.{ext_get_or}
+use Rattle.std.proofs.lemmas.Cmp.{eq_by_cmp_equiv}
+use Rattle.std.proofs.lemmas.Map.Keys.{IsDistinct-from_sorted}
+use Rattle.std.proofs.lemmas.Map.Views.{All-values_from_lookup}
 use Rattle.std.proofs.lemmas.List.Sorted.{IsPermutation-append_left, IsPermutation-append_right}
 use Rattle.hlc_stamp.specs.declared.id.EventId.{EventId}
 use Rattle.hlc_stamp.specs.Order.{Pair}
-use Rattle.hlc_stamp.specs.declared.limits.TheConstants.{MAX_NODES}
 use Rattle.hlc_causality.specs.Causality.{IsSendOf, Skeleton, SkeletonEvent, skeleton_at}
 use Rattle.hlc_causality.specs.Places.{places_below}
 use Rattle.hlc_causality.proofs.Predecessors.{send_is_unique}
@@ -29,21 +31,23 @@ use Rattle.hlc_log_report.specs.Messages.{message_counts}
 use Rattle.hlc_log_report.specs.Moved.{moved_causes, moved_event, moved_skew}
 use Rattle.hlc_log_report.specs.Laws.{KeepsTold}
 use Rattle.hlc_log_report.specs.Reordered.{IsRearranged}
-use Rattle.hlc_log_report.specs.Skew.{AreSkewsTo, IsSkewBefore, NamesSkewBefore}
+use Rattle.hlc_log_report.specs.Skew.{AreSkews, IsSkewBefore, NamesSkewBefore, Skews, by_nodes, skew_between}
 use Rattle.hlc_log_report.specs.declared.counts.Counts.{Counts}
 use Rattle.hlc_log_report.specs.declared.messages.MessageCounts.{MessageCounts}
 use Rattle.hlc_log_report.specs.declared.skew.Skew.{Skew}
+use Rattle.hlc_log_report.specs.declared.skew_nodes.SkewNodes.{SkewNodes}
 use Rattle.hlc_log_report.proofs.EventsInOrder.{length-clocks_of, length-skeleton_of}
 use Rattle.hlc_log_report.proofs.Ordering.{order_len}
 use Rattle.hlc_log_report.proofs.Rearranged.{counts_agree, event_moved, event_same, messages_agree, moved, moved_back, moved_exists, one_log, reordered, same_size, tell_the_same}
 use Rattle.hlc_log_report.proofs.ReorderedTraces.{moved_there, reordering_keeps_skews}
 use Rattle.hlc_log_report.proofs.SeenTraces.{causes_agree, wrong_agrees}
+use Rattle.hlc_log_report.proofs.SkewOrder.{by_nodes_total, same_keys, same_skews, told_between, told_by}
 use Rattle.hlc_log_report.proofs.SamePlaces.{count_list_moved, flat_moved}
 use Rattle.hlc_log_audit.specs.Answers.{drift_fields, drift_in}
 use Rattle.hlc_log_audit.proofs.SameAnswers.{line_moved, node_moved, same_drift, same_node}
 use Rattle.hlc_log_audit.proofs.RowsAdded.{flat_map-same}
 use Rattle.hlc_log_audit.specs.Laws.{RearrangedReportsAgree, ReportsAgree}
-use Rattle.hlc_log_audit.specs.Report.{AreCauses, AreSkewRows, AreSkewRowsTo, IsSkewOfEvents, NameEvents, cause_fields, cause_row, cause_rows, cause_rows_at, count_rows, events_at, joined, message_row, node_row, node_rows, skew_row, wrong_at, wrong_row}
+use Rattle.hlc_log_audit.specs.Report.{AreCauses, AreSkewRows, IsSkewOfEvents, NameEvents, cause_fields, cause_row, cause_rows, cause_rows_at, count_rows, events_at, message_row, node_row, node_rows, skew_row, wrong_at, wrong_row}
 use Rattle.hlc_log_audit.proofs.EventsInOrder.{names_events, same_causes, skew_of_events, wrong_exists}
 use Rattle.hlc_log.specs.OrderSkeleton.{index_in}
 use Rattle.hlc_log.proofs.OrderSkeletons.{place_of_index}
@@ -192,63 +196,68 @@ module _ (log other : LogInOrder) (to back : ℕ → ℕ) (h : IsRearranged log 
           ap (cause_rows_at nodes other (to e)) same ∙ rows_moved e lt found (names_events log h.ordered full k found k_lt names)
 
     -- skews
-    skew_row_moved : (from node : ℕ) (found : Option Skew) → IfSome found (IsSkewOfEvents log)
-        → skew_row nodes other from node (option_map (moved_skew to_there) found) ≡ skew_row nodes log from node found
-    skew_row_moved from node None exist = refl
-    skew_row_moved from node (Some skew) exist =
+    skew_row_moved : (found : SkewNodes × Skew) → IsSkewOfEvents log found.1
+        → skew_row nodes other (found.0, moved_skew to_there found.1) ≡ skew_row nodes log found
+    skew_row_moved (between, skew) exist =
         let shown = signed_decimal (pos skew.sent_at -ℤ pos skew.delivered_at) in
-        ap (λ (line : ℕ).
-        (codes "skew" ∷ name_of nodes from ∷ name_of nodes node ∷ shown ∷ decimal line ∷ decimal (line_in other (to_there skew.delivery.0)) ∷ []) ∷ [])
+        let from = name_of nodes between.from.0 in
+        let node = name_of nodes between.to.0 in
+        ap (λ (line : ℕ). codes "skew" ∷ from ∷ node ∷ shown ∷ decimal line ∷ decimal (line_in other (to_there skew.delivery.0)) ∷ [])
         (line_moved log other to back h skew.send.0 exist.send)
-        ∙ ap (λ (line : ℕ).
-        (codes "skew" ∷ name_of nodes from ∷ name_of nodes node ∷ shown ∷ decimal (line_in log skew.send.0) ∷ decimal line ∷ []) ∷ [])
+        ∙ ap (λ (line : ℕ). codes "skew" ∷ from ∷ node ∷ shown ∷ decimal (line_in log skew.send.0) ∷ decimal line ∷ [])
         (line_moved log other to back h skew.delivery.0 exist.delivery)
+
+    skew_rows_moved : (skews : Skews) → All (IsSkewOfEvents log) (values_of skews)
+        → map (skew_row nodes other) (told_by (moved_skew to_there) skews) ≡ map (skew_row nodes log) skews
+    skew_rows_moved [] exist = refl
+    skew_rows_moved (x ∷ xs) exist =
+        let first = skew_row_moved x (exist 0 x.1 (omega arith)) in
+        let rest = skew_rows_moved xs (λ k none lt. exist (suc k) none (omega (arith, lt))) in
+        λ i. first i ∷ rest i
 
     same_told : KeepsTold (skeleton_of log) to_there (reading_told log) (reading_told other)
     same_told k lt = ap (λ (x : LogEvent). x.has_reading) (event_moved log other to back h k lt)
 
-    module _ (few : length nodes ≤ MAX_NODES) where
-      same_skew_row : (node from : ℕ) → from < length nodes → (skews others : List (Option Skew)) → AreSkewsTo (skeleton_of log) (reading_told log) node skews
-          → AreSkewsTo (skeleton_of other) (reading_told other) node others
-          → skew_row nodes other from node (slice_index_or others from None) ≡ skew_row nodes log from node (slice_index_or skews from None)
-      same_skew_row node from lt skews others are others_are =
-          let found = slice_index_or skews from None in
-          let is = are.each from (omega arith) in
+    module _ (skews others : Skews) (are : AreSkews (skeleton_of log) (reading_told log) skews)
+        (others_are : AreSkews (skeleton_of other) (reading_told other) others) where
+      same_between : (q : SkewNodes) → skew_between others q ≡ skew_between (told_by (moved_skew to_there) skews) q
+      same_between q =
+          let from = q.from.0 in
+          let node = q.to.0 in
+          let found = skew_between skews q in
           let kept =
           reordering_keeps_skews (skeleton_of log) (skeleton_of other) to_there (moved_back log other to back h) (reordered log other to back h)
-          (reading_told log) (reading_told other) same_told from node from node (same_node log other to back h from) (same_node log other to back h node) found is in
-          ap (skew_row nodes other from node)
-          (one_skew (skeleton_of other) (reading_told other) (length (skeleton_of other)) from node (slice_index_or others from None) (option_map (moved_skew to_there) found)
-          (others_are.each from (omega arith)) kept)
-          ∙ skew_row_moved from node found (skew_of_events log h.ordered (length (skeleton_of log)) from node found is)
+          (reading_told log) (reading_told other) same_told from node from node (same_node log other to back h from) (same_node log other to back h node) found (are.each q) in
+          one_skew (skeleton_of other) (reading_told other) (length (skeleton_of other)) from node (skew_between others q) (option_map (moved_skew to_there) found)
+          (others_are.each q) kept
+          ∙ sym (told_between (moved_skew to_there) skews q)
 
-      same_part : (node : ℕ) (part other_part : List Fields) → AreSkewRowsTo nodes log node part → AreSkewRowsTo nodes other node other_part
-          → other_part ≡ part
-      same_part node part other_part (skews, are, is) (others, others_are, others_is) =
-          others_is
-          ∙ flat_map-same (λ from. skew_row nodes other from node (slice_index_or others from None))
-          (λ from. skew_row nodes log from node (slice_index_or skews from None)) (length nodes)
-          (λ from lt. same_skew_row node from lt skews others are others_are)
-          ∙ sym is
+      all_of_events : All (IsSkewOfEvents log) (values_of skews)
+      all_of_events =
+          All-values_from_lookup (eq_by_cmp_equiv by_nodes_total) (IsSkewOfEvents log) skews (IsDistinct-from_sorted by_nodes (keys_of skews) are.sorted)
+          (λ q. skew_of_events log h.ordered (length (skeleton_of log)) q.from.0 q.to.0 (skew_between skews q) (are.each q))
 
-      same_parts : (parts others : List (List Fields)) → AreSkewRows nodes log parts → AreSkewRows nodes other others → others ≡ parts
-      same_parts parts others are others_are =
-          ext_get_or [] others parts (others_are.one_each ∙ sym are.one_each) (λ node lt.
-          let size = others_are.one_each in
-          let within : node < length nodes = omega arith in
-          same_part node (slice_index_or parts node []) (slice_index_or others node []) (are.each node within) (others_are.each node within))
+      same_skew_rows : map (skew_row nodes other) others ≡ map (skew_row nodes log) skews
+      same_skew_rows =
+          ap (map (skew_row nodes other))
+          (same_skews others (told_by (moved_skew to_there) skews) others_are.sorted
+          (subst (IsStrictlySortedBy by_nodes) (sym (same_keys (moved_skew to_there) skews)) are.sorted) same_between)
+          ∙ skew_rows_moved skews all_of_events
 
-      -- all but the counts and the causes
-      pub same_rest : (parts others : List (List Fields)) → AreSkewRows nodes log parts → AreSkewRows nodes other others
-          → node_rows nodes other ++ (message_row (message_counts other) ∷ joined others) ≡ node_rows nodes log ++ (message_row (message_counts log) ∷ joined parts)
-      same_rest parts others are others_are =
-          ap (λ (rows : List Fields). rows ++ (message_row (message_counts other) ∷ joined others)) same_node_rows
-          ∙ ap (λ (counts : MessageCounts). node_rows nodes log ++ (message_row counts ∷ joined others)) (messages_agree log other to back h)
-          ∙ ap (λ (skews : List (List Fields)). node_rows nodes log ++ (message_row (message_counts log) ∷ joined skews)) (same_parts parts others are others_are)
+    same_skews_told : (rows others : List Fields) → AreSkewRows nodes log rows → AreSkewRows nodes other others → others ≡ rows
+    same_skews_told rows others (skews, are, is) (other_skews, others_are, others_is) = others_is ∙ same_skew_rows skews other_skews are others_are ∙ sym is
+
+    -- all but the counts and the causes
+    pub same_rest : (rows others : List Fields) → AreSkewRows nodes log rows → AreSkewRows nodes other others
+        → node_rows nodes other ++ (message_row (message_counts other) ∷ others) ≡ node_rows nodes log ++ (message_row (message_counts log) ∷ rows)
+    same_rest rows others are others_are =
+        ap (λ (parts : List Fields). parts ++ (message_row (message_counts other) ∷ others)) same_node_rows
+        ∙ ap (λ (counts : MessageCounts). node_rows nodes log ++ (message_row counts ∷ others)) (messages_agree log other to back h)
+        ∙ ap (λ (skews : List Fields). node_rows nodes log ++ (message_row (message_counts log) ∷ skews)) (same_skews_told rows others are others_are)
 
 -- one log
 pub reports_agree : ReportsAgree
-reports_agree nodes log other full rows others few ordered other_ordered clocks same report other_report =
+reports_agree nodes log other full rows others ordered other_ordered clocks same report other_report =
     let h = one_log log other clocks ordered other_ordered same in
     let counts = counts_agree log other (λ e. e) (λ e. e) h full report.counts other_report.counts report.counted other_report.counted in
     let causes : cause_rows nodes other other_report.causes ≡ cause_rows nodes log report.causes =
@@ -256,23 +265,23 @@ reports_agree nodes log other full rows others few ordered other_ordered clocks 
     ∙ flat_map-same (λ e. cause_rows_at nodes other e (slice_index_or other_report.causes e no_causes))
     (λ e. cause_rows_at nodes log e (slice_index_or report.causes e no_causes)) (length log.events)
     (cause_rows_moved log other (λ e. e) (λ e. e) h nodes full report.causes other_report.causes report.are_causes other_report.are_causes) in
-    let rest = same_rest log other (λ e. e) (λ e. e) h nodes few report.skews other_report.skews report.are_skews other_report.are_skews in
+    let rest = same_rest log other (λ e. e) (λ e. e) h nodes report.skews other_report.skews report.are_skews other_report.are_skews in
     other_report.rows_are
     ∙ ap (λ (c : Counts). count_rows c ++ (cause_rows nodes other other_report.causes ++ (node_rows nodes other
-    ++ (message_row (message_counts other) ∷ joined other_report.skews)))) counts
+    ++ (message_row (message_counts other) ∷ other_report.skews)))) counts
     ∙ ap (λ (r : List Fields). count_rows report.counts ++ (r ++ (node_rows nodes other
-    ++ (message_row (message_counts other) ∷ joined other_report.skews)))) causes
+    ++ (message_row (message_counts other) ∷ other_report.skews)))) causes
     ∙ ap (λ (r : List Fields). count_rows report.counts ++ (cause_rows nodes log report.causes ++ r)) rest
     ∙ sym report.rows_are
 
 -- logs with the same events
 pub rearranged_reports_agree : RearrangedReportsAgree
-rearranged_reports_agree nodes log other to back full rows others few h report other_report =
+rearranged_reports_agree nodes log other to back full rows others h report other_report =
     let counts = counts_agree log other to back h full report.counts other_report.counts report.counted other_report.counted in
     let row : ℕ → List Fields = λ e. cause_rows_at nodes log e (slice_index_or report.causes e no_causes) in
     let other_row : ℕ → List Fields = λ e. cause_rows_at nodes other e (slice_index_or other_report.causes e no_causes) in
-    let rest = same_rest log other to back h nodes few report.skews other_report.skews report.are_skews other_report.are_skews in
-    let tail : List Fields = node_rows nodes log ++ (message_row (message_counts log) ∷ joined report.skews) in
+    let rest = same_rest log other to back h nodes report.skews other_report.skews report.are_skews other_report.are_skews in
+    let tail : List Fields = node_rows nodes log ++ (message_row (message_counts log) ∷ report.skews) in
     let size = h.size in
     let causes : IsPermutation (flat_map row (places_below (length log.events))) (flat_map other_row (places_below (length other.events))) =
     subst (λ (n : ℕ). IsPermutation (flat_map row (places_below (length log.events))) (flat_map other_row (places_below n))) (sym size)
@@ -285,7 +294,7 @@ rearranged_reports_agree nodes log other to back full rows others few h report o
     let others_are : others ≡ count_rows report.counts ++ (cause_rows nodes other other_report.causes ++ tail) =
     other_report.rows_are
     ∙ ap (λ (c : Counts). count_rows c ++ (cause_rows nodes other other_report.causes ++ (node_rows nodes other
-    ++ (message_row (message_counts other) ∷ joined other_report.skews)))) counts
+    ++ (message_row (message_counts other) ∷ other_report.skews)))) counts
     ∙ ap (λ (r : List Fields). count_rows report.counts ++ (cause_rows nodes other other_report.causes ++ r)) rest in
     subst (λ (r : List Fields). IsPermutation r others) (sym report.rows_are)
     (subst (IsPermutation (count_rows report.counts ++ (cause_rows nodes log report.causes ++ tail))) (sym others_are) both)

@@ -4,7 +4,6 @@ use Rattle.std.specs.Prelude.{◌&&◌, count_by, nat_lt, option_map}
 use Rattle.std.proofs.lemmas.Bool.{cases_Bool, cases_eq, eq-eqb, le-leb, lt-leb, ltb-false, ltb-true, ne_eqb}
 use Rattle.std.proofs.lemmas.List.{get_or-replicate, get_or-set_other, get_or-set_same, length-replicate, length-set, length-take, take_all}
 use Rattle.std.proofs.lemmas.List.Sums.{count_by-le-length, count_by_more_no, count_by_more_yes}
-use Rattle.hlc_stamp.specs.declared.limits.TheConstants.{MAX_NODES}
 use Rattle.hlc_causality.specs.Causality.{Skeleton, SkeletonEvent, skeleton_at}
 use Rattle.hlc_causality.specs.NodeEvents.{drift_at}
 use Rattle.hlc_explain.specs.Findings.{further_ahead}
@@ -77,7 +76,7 @@ module _ (log : LogInOrder) (n : ℕ) where
         let furthest = furthest_more ∙ ap by_test is in
         λ i. record { events = count i; furthest = furthest i }
 
-  pub tallies_push : (tallies : List NodeTally) (node : ℕ) (tally : NodeTally) → n < length s → node ≡ (skeleton_at s n).node → node < MAX_NODES
+  pub tallies_push : (tallies : List NodeTally) (node : ℕ) (tally : NodeTally) → n < length s → node ≡ (skeleton_at s n).node → node < log.nodes
       → tally ≡ with_event (get_or tallies node no_tally) (furthest_at log n) (reading_told log n)
       → AreTalliesBefore log n tallies → AreTalliesBefore log (n + 1) (set tallies node tally)
   tallies_push tallies node tally exists is small tally_is are =
@@ -99,10 +98,10 @@ module _ (log : LogInOrder) (n : ℕ) where
       }
 
 -- before the first event
-pub tallies_begin : (log : LogInOrder) → AreTalliesBefore log 0 (replicate 64 no_tally)
+pub tallies_begin : (log : LogInOrder) → AreTalliesBefore log 0 (replicate log.nodes no_tally)
 tallies_begin log = record {
-  nodes = length-replicate 64 no_tally;
-  each = λ node small. get_or-replicate 64 node no_tally no_tally small;
+  nodes = length-replicate log.nodes no_tally;
+  each = λ node small. get_or-replicate log.nodes node no_tally no_tally small;
 }
 
 -- after the last event

@@ -35,7 +35,9 @@ opened_alike rules text one other is other_is =
     let labels : other.labels ≡ one.labels = other_is.labels ∙ sym is.labels in
     let questions : other.questions ≡ one.questions = other_is.questions ∙ sym is.questions in
     let unsent : other.unsent ≡ one.unsent = other_is.ordered.taken ∙ sym is.ordered.taken in
+    let resent : other.resent ≡ one.resent = other_is.ordered.again ∙ sym is.ordered.again in
     let skipped : other.skipped ≡ one.skipped = other_is.skipped ∙ sym is.skipped in
+    let left_out : other.left_out ≡ one.left_out = other_is.left_out ∙ sym is.left_out in
     let full : other.full ≡ one.full = other_is.full ∙ sym is.full in
     λ i. record {
       log = other.log;
@@ -43,7 +45,9 @@ opened_alike rules text one other is other_is =
       labels = labels i;
       questions = questions i;
       unsent = unsent i;
+      resent = resent i;
       skipped = skipped i;
+      left_out = left_out i;
       full = full i;
     }
 

@@ -25,6 +25,7 @@ use Rattle.hlc_log_report.specs.declared.counts.Counts.{Counts}
 use Rattle.hlc_open_log.specs.Opened.{IsOpened, IsOpenedOf, OpenedLog, opened_events}
 use Rattle.hlc_open_log.specs.Unopened.{HasNoOrder, bad_record, bad_text}
 use Rattle.hlc_open_log.specs.declared.bad_input.BadInput.{BadInput}
+use Rattle.hlc_log_audit.specs.LeftOut.{left_out_rows}
 use Rattle.hlc_log_audit.specs.OverLimit.{IsClaimOver}
 use Rattle.hlc_log_audit.specs.Report.{AreOverRows, IsReport}
 use Rattle.hlc_log_audit.specs.declared.audited.Audited.{Audited}
@@ -32,10 +33,14 @@ use Rattle.hlc_log_audit.specs.declared.outcome.Outcome.{Outcome}
 use Rattle.hlc_log_audit.specs.declared.outcome.Outcome.TheVariants as outcome
 use Rattle.hlc_log_audit.specs.declared.rules.AuditRules.{AuditRules}
 
--- the row of how many receives of unsent messages were taken as local events, if the rules say so
-abbrev pub unsent_row : Option ℕ → List Fields
-unsent_row None = []
-unsent_row (Some count) = (codes "unsent" ∷ decimal count ∷ []) ∷ []
+-- the row of a word and of how many events were taken in a way, if the rules say so
+abbrev pub taken_row : (word : List ℕ) → Option ℕ → List Fields
+taken_row word None = []
+taken_row word (Some count) = (word ∷ decimal count ∷ []) ∷ []
+
+-- the rows of how many receives of unsent messages were taken as local events, and of how many sends sent a message again
+abbrev pub taken_rows : (unsent resent : Option ℕ) → List Fields
+taken_rows unsent resent = taken_row (codes "unsent") unsent ++ taken_row (codes "resent") resent
 
 -- the row of a word and of how many events this is so, if it is of some
 abbrev pub counted_row : (word : List ℕ) → ℕ → List Fields
@@ -119,18 +124,20 @@ abbrev pub is_reported : AuditRules → List Asked → Bool
 is_reported rules [] = true
 is_reported rules (question ∷ questions) = rules.report
 
--- rows are the report on a log in order, with how many receives were taken as local, what isn't told of how many events, which records were left
--- out, and which claims are over the limit, or there are none if it isn't written
-abbrev pub IsReportIf : Bool → (nodes : List (List ℕ)) → LogInOrder → (full : ℕ) → (unsent : Option ℕ) → Option Skipped → (limit : Option ℕ) → List Fields → Type 0
-IsReportIf false nodes log full unsent skipped limit rows = rows ≡ []
-IsReportIf true nodes log full unsent skipped limit rows =
+-- rows are the report on a log in order, with how many receives were taken as local, how many sends sent again, what isn't told of how many events,
+-- which records were left out, which of these are bad, and which claims are over the limit, or there are none if it isn't written
+abbrev pub IsReportIf : Bool → (nodes : List (List ℕ)) → LogInOrder → (full : ℕ) → (unsent resent : Option ℕ) → Option Skipped → List BadLine
+    → (limit : Option ℕ) → List Fields → Type 0
+IsReportIf false nodes log full unsent resent skipped left_out limit rows = rows ≡ []
+IsReportIf true nodes log full unsent resent skipped left_out limit rows =
     (report over : List Fields) × IsReport nodes log full report × AreOverRows nodes log limit over
-    × (rows ≡ ((report ++ unsent_row unsent) ++ missing_rows log.events skipped) ++ over)
+    × (rows ≡ (((report ++ taken_rows unsent resent) ++ missing_rows log.events skipped) ++ left_out_rows left_out) ++ over)
 
 -- rows are the report on an opened log, if it is to be written, and the answers to what is asked
 pub record AreRowsTold (opened : OpenedLog) (rules : AuditRules) (asked : List Asked) (rows : List Fields) : Type 0 where
   pub report : List Fields
-  pub is_report : IsReportIf (is_reported rules asked) opened.nodes opened.log opened.full opened.unsent opened.skipped rules.limit report
+  pub is_report : IsReportIf (is_reported rules asked) opened.nodes opened.log opened.full opened.unsent opened.resent opened.skipped opened.left_out
+      rules.limit report
   pub answers : List Fields
   pub are_answers : AreAnswers opened.nodes opened.labels opened.log opened.full asked answers
   pub rows_are : rows ≡ report ++ answers
@@ -150,7 +157,7 @@ pub record IsTold (text : LogText) (rules : AuditRules) (asked : List LogQuestio
 
 -- what the audit of a log that was read left, with this outcome: the row that says why it has no order, or what is told of it
 abbrev pub IsTextAudited : LogText → AuditRules → List LogQuestion → (before after : Option (List ℕ)) → Outcome → Type 0
-IsTextAudited text rules asked before after outcome.BadLog = IsDisorderShown (opened_events rules.records text.log.events) before after
+IsTextAudited text rules asked before after outcome.BadLog = IsDisorderShown (opened_events rules.records text.messages text.log.events) before after
 IsTextAudited text rules asked before after outcome.Sound = IsTold text rules asked before after outcome.Sound
 IsTextAudited text rules asked before after outcome.OverLimit = IsTold text rules asked before after outcome.OverLimit
 IsTextAudited text rules asked before after (outcome.Broken over) = IsTold text rules asked before after (outcome.Broken over)

@@ -1,8 +1,7 @@
 -- The laws of answers and reports.
 use Rattle.std.specs.List.Sorted.{IsPermutation}
-use Rattle.std.specs.Prelude.{◌≡◌, Bool, ℕ, ◌<◌, ◌≤◌, List, ◌∷◌, ◌++◌, Some, codes, length, map, option_map, true}
+use Rattle.std.specs.Prelude.{◌≡◌, Bool, ℕ, ◌<◌, List, ◌∷◌, ◌++◌, Some, codes, length, map, option_map, true}
 use Rattle.hlc_stamp.specs.Order.{Pair}
-use Rattle.hlc_stamp.specs.declared.limits.TheConstants.{MAX_NODES}
 use Rattle.hlc_causality.specs.Causality.{Skeleton}
 use Rattle.hlc_causality.specs.ClockEvents.{ClockEvents}
 use Rattle.hlc_explain.specs.ClockFindings.{clock_node_drift}
@@ -21,7 +20,7 @@ use Rattle.hlc_log_audit.specs.Audit.{ExceedsLimit, IsOutcome, IsTextAudited}
 use Rattle.hlc_log_audit.specs.ClaimedWay.{claimed_way}
 use Rattle.hlc_open_log.specs.Opened.{LinesRise}
 use Rattle.hlc_log_audit.specs.Moved.{moved_drift}
-use Rattle.hlc_log_audit.specs.Report.{AreSkewRows, IsReport, count_row, joined, message_row, node_rows}
+use Rattle.hlc_log_audit.specs.Report.{AreSkewRows, IsReport, count_row, message_row, node_rows}
 use Rattle.hlc_log_audit.specs.ToldDrift.{NamesToldDrift, told_drift}
 use Rattle.hlc_log_audit.specs.declared.outcome.Outcome.{Outcome}
 use Rattle.hlc_log_audit.specs.declared.outcome.Outcome.TheVariants.{Sound}
@@ -70,9 +69,9 @@ AnswersAgree = (nodes : List (List ℕ)) (labels : List (ℕ × List ℕ)) (log 
 
 -- rows report that nothing is wrong: all stamps that are told are counted least, and the nodes, messages and skews follow
 pub record IsCleanReport (nodes : List (List ℕ)) (log : LogInOrder) (rows : List Fields) : Type 0 where
-  pub skews : List (List Fields)
+  pub skews : List Fields
   pub are_skews : AreSkewRows nodes log skews
-  pub rows_are : rows ≡ count_row (codes "least") (told_count log) ++ (node_rows nodes log ++ (message_row (message_counts log) ∷ joined skews))
+  pub rows_are : rows ≡ count_row (codes "least") (told_count log) ++ (node_rows nodes log ++ (message_row (message_counts log) ∷ skews))
 
 -- so does the report on a log that claims the least stamps, and whose messages carried what it claims
 abbrev pub LeastStampsReportClean : Type 0
@@ -86,14 +85,14 @@ LeastStampsAreSound = (log : LogInOrder) (rules : AuditRules) (result : Outcome)
 
 -- a log has one report, whichever causal order was found for it
 abbrev pub ReportsAgree : Type 0
-ReportsAgree = (nodes : List (List ℕ)) (log other : LogInOrder) (full : ℕ) (rows others : List Fields) → length nodes ≤ MAX_NODES →
+ReportsAgree = (nodes : List (List ℕ)) (log other : LogInOrder) (full : ℕ) (rows others : List Fields) →
     IsInOrder log → IsInOrder other → other.receives ≡ log.receives → other.events ≡ log.events →
     IsReport nodes log full rows → IsReport nodes other full others → others ≡ rows
 
 -- and logs with the same events in different orders have the same rows, up to their order
 abbrev pub RearrangedReportsAgree : Type 0
 RearrangedReportsAgree = (nodes : List (List ℕ)) (log other : LogInOrder) (to back : ℕ → ℕ) (full : ℕ) (rows others : List Fields) →
-    length nodes ≤ MAX_NODES → IsRearranged log other to back → IsReport nodes log full rows → IsReport nodes other full others →
+    IsRearranged log other to back → IsReport nodes log full rows → IsReport nodes other full others →
     IsPermutation rows others
 
 -- logs that tell the same have one outcome
@@ -104,6 +103,6 @@ OutcomesAgree = (log other : LogInOrder) (to back : ℕ → ℕ) → TellTheSame
 -- an audit is a function of its log: two audits of one text, by the same rules and with the same asked, have one outcome and leave the same bytes
 abbrev pub AuditsAgree : Type 0
 AuditsAgree = (text : LogText) (rules : AuditRules) (asked : List LogQuestion) (before after others : List ℕ) (result other_result : Outcome) →
-    length text.nodes ≤ MAX_NODES → LinesRise text.log.events →
+    LinesRise text.log.events →
     IsTextAudited text rules asked (Some before) (Some after) result → IsTextAudited text rules asked (Some before) (Some others) other_result →
     (other_result ≡ result) × (others ≡ after)

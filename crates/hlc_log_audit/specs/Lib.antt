@@ -2,6 +2,7 @@ pub mod Answers
 pub mod Audit
 pub mod ClaimedWay
 pub mod Laws
+pub mod LeftOut
 pub mod Lines
 pub mod Moved
 pub mod OverLimit

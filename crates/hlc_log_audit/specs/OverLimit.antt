@@ -1,7 +1,6 @@
 -- The claims of a log that are over a limit.
 use Rattle.std.specs.Prelude.{◌≡◌, ◌==◌, ◌&&◌, Bool, false, ℕ, ◌+◌, ◌-◌, ◌<◌, ◌≤◌, List, Option, Some, None, count_by, if◌then◌else◌, length, nat_le, nat_lt, slice_index_or, take}
 use Rattle.hlc_stamp.specs.declared.id.EventId.{EventId}
-use Rattle.hlc_stamp.specs.declared.limits.TheConstants.{MAX_NODES}
 use Rattle.hlc_log.specs.Events.{event_at}
 use Rattle.hlc_log.specs.declared.log_event.LogEvent.{LogEvent}
 use Rattle.hlc_log_audit.specs.declared.over.Over.{Over}
@@ -44,14 +43,14 @@ abbrev pub NamesOverBefore : (limit : ℕ) → List LogEvent → (n node : ℕ) 
 NamesOverBefore limit events n node None = (over_count limit events n node ≡ 0) × ((e : ℕ) → ¬ IsOverAt limit events n node e)
 NamesOverBefore limit events n node (Some over) = IsOverBefore limit events n node over
 
--- an answer for each node
-pub record AreOversBefore (limit : ℕ) (events : List LogEvent) (n : ℕ) (overs : List (Option Over)) : Type 0 where
-  pub nodes : length overs ≡ MAX_NODES
-  pub each : (node : ℕ) → node < MAX_NODES → NamesOverBefore limit events n node (slice_index_or overs node None)
+-- an answer for each of so many nodes
+pub record AreOversBefore (limit nodes : ℕ) (events : List LogEvent) (n : ℕ) (overs : List (Option Over)) : Type 0 where
+  pub one_each : length overs ≡ nodes
+  pub each : (node : ℕ) → node < nodes → NamesOverBefore limit events n node (slice_index_or overs node None)
 
 -- the same of all events
-abbrev pub AreOvers : (limit : ℕ) → List LogEvent → List (Option Over) → Type 0
-AreOvers limit events overs = AreOversBefore limit events (length events) overs
+abbrev pub AreOvers : (limit nodes : ℕ) → List LogEvent → List (Option Over) → Type 0
+AreOvers limit nodes events overs = AreOversBefore limit nodes events (length events) overs
 
 -- one claim more, by a later event
 abbrev pub with_claim : Option Over → (place : EventId) → (ahead : ℕ) → Over

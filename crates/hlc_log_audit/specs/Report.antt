@@ -21,10 +21,11 @@ use Rattle.hlc_log_report.specs.Counts.{AreCounted}
 use Rattle.hlc_log_report.specs.Found.{NamesCausesIn}
 use Rattle.hlc_log_report.specs.InOrder.{LogInOrder, line_in, reading_told, skeleton_of, wrong_of}
 use Rattle.hlc_log_report.specs.Messages.{message_counts}
-use Rattle.hlc_log_report.specs.Skew.{AreSkewsTo}
+use Rattle.hlc_log_report.specs.Skew.{AreSkews, Skews}
 use Rattle.hlc_log_report.specs.declared.counts.Counts.{Counts}
 use Rattle.hlc_log_report.specs.declared.messages.MessageCounts.{MessageCounts}
 use Rattle.hlc_log_report.specs.declared.skew.Skew.{Skew}
+use Rattle.hlc_log_report.specs.declared.skew_nodes.SkewNodes.{SkewNodes}
 
 -- the row of a verdict's count, if there are some
 abbrev pub count_row : (word : List ℕ) → ℕ → List Fields
@@ -125,33 +126,18 @@ skew_fields nodes log from to skew =
     codes "skew" ∷ name_of nodes from ∷ name_of nodes to ∷ signed_decimal (pos skew.sent_at -ℤ pos skew.delivered_at)
     ∷ decimal (line_in log skew.send.0) ∷ decimal (line_in log skew.delivery.0) ∷ []
 
--- the row of a skew, if messages show one
-abbrev pub skew_row : (nodes : List (List ℕ)) → LogInOrder → (from to : ℕ) → Option Skew → List Fields
-skew_row nodes log from to None = []
-skew_row nodes log from to (Some skew) = skew_fields nodes log from to skew ∷ []
-
 -- the message that shows a skew has its two events
 pub record IsSkewOfEvents (log : LogInOrder) (skew : Skew) : Type 0 where
   pub send : skew.send.0 < length log.events
   pub delivery : skew.delivery.0 < length log.events
 
--- the skews to one node
-abbrev pub skew_rows_to : (nodes : List (List ℕ)) → LogInOrder → ℕ → List (Option Skew) → List Fields
-skew_rows_to nodes log to skews = flat_map (λ from. skew_row nodes log from to (slice_index_or skews from None)) (places_below (length nodes))
+-- the row of the skew of two nodes
+abbrev pub skew_row : (nodes : List (List ℕ)) → LogInOrder → SkewNodes × Skew → Fields
+skew_row nodes log skew = skew_fields nodes log skew.0.from.0 skew.0.to.0 skew.1
 
--- these rows are the skews to one node
-abbrev pub AreSkewRowsTo : (nodes : List (List ℕ)) → LogInOrder → ℕ → List Fields → Type 0
-AreSkewRowsTo nodes log to rows =
-    (skews : List (Option Skew)) × AreSkewsTo (skeleton_of log) (reading_told log) to skews × (rows ≡ skew_rows_to nodes log to skews)
-
--- these are the rows of the skews to each of the first n nodes
-pub record AreSkewRowsBefore (nodes : List (List ℕ)) (log : LogInOrder) (n : ℕ) (parts : List (List Fields)) : Type 0 where
-  pub one_each : length parts ≡ n
-  pub each : (to : ℕ) → to < n → AreSkewRowsTo nodes log to (slice_index_or parts to [])
-
--- the same of all nodes
-abbrev pub AreSkewRows : (nodes : List (List ℕ)) → LogInOrder → List (List Fields) → Type 0
-AreSkewRows nodes log parts = AreSkewRowsBefore nodes log (length nodes) parts
+-- these are the rows of the skews, in the order of the nodes to which messages went, and of those from which they came
+abbrev pub AreSkewRows : (nodes : List (List ℕ)) → LogInOrder → List Fields → Type 0
+AreSkewRows nodes log rows = (skews : Skews) × AreSkews (skeleton_of log) (reading_told log) skews × (rows ≡ map (skew_row nodes log) skews)
 
 -- the line where the l that the event of a line claims came in: the first on the way that answers the question `claimed`
 abbrev pub origin_field : LogInOrder → (line : ℕ) → List ℕ
@@ -181,11 +167,7 @@ over_rows nodes log overs = flat_map (λ node. over_row nodes log node (slice_in
 -- these are the rows of the nodes whose claims are over the limit, if there is one
 abbrev pub AreOverRows : (nodes : List (List ℕ)) → LogInOrder → (limit : Option ℕ) → List Fields → Type 0
 AreOverRows nodes log None rows = rows ≡ []
-AreOverRows nodes log (Some limit) rows = (overs : List (Option Over)) × AreOvers limit log.events overs × (rows ≡ over_rows nodes log overs)
-
--- parts of a report, one after another
-abbrev pub joined : List (List Fields) → List Fields
-joined parts = flat_map (λ part. part) parts
+AreOverRows nodes log (Some limit) rows = (overs : List (Option Over)) × AreOvers limit (length nodes) log.events overs × (rows ≡ over_rows nodes log overs)
 
 -- the rows of the report: the counts of the verdicts, the causes, the nodes, the messages and the skews
 pub record IsReport (nodes : List (List ℕ)) (log : LogInOrder) (full : ℕ) (rows : List Fields) : Type 0 where
@@ -193,7 +175,7 @@ pub record IsReport (nodes : List (List ℕ)) (log : LogInOrder) (full : ℕ) (r
   pub counted : AreCounted log full counts
   pub causes : List Causes
   pub are_causes : AreCauses log full causes
-  pub skews : List (List Fields)
+  pub skews : List Fields
   pub are_skews : AreSkewRows nodes log skews
   pub rows_are : rows ≡ count_rows counts ++ (cause_rows nodes log causes ++ (node_rows nodes log
-      ++ (message_row (message_counts log) ∷ joined skews)))
+      ++ (message_row (message_counts log) ∷ skews)))

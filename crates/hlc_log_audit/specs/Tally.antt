@@ -1,6 +1,5 @@
 -- What is counted of the events of each node, one after another.
 use Rattle.std.specs.Prelude.{◌≡◌, ◌==◌, Bool, ℕ, ◌+◌, ◌<◌, List, Option, Some, None, count_by, if◌then◌else◌, length, nat_le, option_map, slice_index_or, take}
-use Rattle.hlc_stamp.specs.declared.limits.TheConstants.{MAX_NODES}
 use Rattle.hlc_causality.specs.NodeEvents.{drift_at}
 use Rattle.hlc_log_report.specs.InOrder.{LogInOrder, reading_told, skeleton_of}
 use Rattle.hlc_log_audit.specs.ToldDrift.{furthest_told}
@@ -36,8 +35,8 @@ tally_before log n node =
 
 -- a tally for each node
 pub record AreTalliesBefore (log : LogInOrder) (n : ℕ) (tallies : List NodeTally) : Type 0 where
-  pub nodes : length tallies ≡ MAX_NODES
-  pub each : (node : ℕ) → node < MAX_NODES → slice_index_or tallies node no_tally ≡ tally_before log n node
+  pub nodes : length tallies ≡ log.nodes
+  pub each : (node : ℕ) → node < log.nodes → slice_index_or tallies node no_tally ≡ tally_before log n node
 
 -- the same of all events
 abbrev pub AreTallies : LogInOrder → List NodeTally → Type 0

@@ -19,8 +19,8 @@ use std::io::Write;
 
 /// Adds the one row that answers a question about a log.
 ///
-/// A chain, a way or influence takes memory as it is found. It goes over the events once for what it knows of nodes. After a fault nothing is
-/// promised of what the writer got.
+/// It goes over the events once for what it knows of nodes, and takes memory for each node, and again for a relation. A chain, a way or
+/// influence takes memory as it is found. After a fault nothing is promised of what the writer got.
 pub fn push_answer<W: Write>(
     alloc: Global,
     rows: &mut RowBuffer,
@@ -31,7 +31,7 @@ pub fn push_answer<W: Write>(
     ensures { OnOk result ((row : Fields) × IsAnswer log.now.nodes log.now.labels log.now.log log.now.full (plain_asked question.now) row
         × AddsRow W.contents writer.old writer.new rows.old rows.new row) }
 {
-    let tallies = tally_nodes(log.ordered());
+    let tallies = tally_nodes(alloc, log.ordered())?;
     push_tallied(alloc, rows, log, &tallies, question, writer)
 }
 
@@ -55,7 +55,7 @@ fn push_tallied<W: Write>(
             alloc, rows, ordered, *line, chain, writer,
         ),
         LogQuestion::Relation { first, second } => push_relation(
-            rows, ordered, *first, *second, writer,
+            alloc, rows, ordered, *first, *second, writer,
         ),
         LogQuestion::Influenced(line) => push_influenced(alloc, rows, ordered, *line, writer),
         LogQuestion::Drift(name) => push_drift(rows, log, tallies, name, writer),
@@ -79,7 +79,7 @@ pub(crate) fn push_answers<W: Write>(
     if questions.is_empty() {
         return Ok(());
     }
-    let tallies = tally_nodes(log.ordered());
+    let tallies = tally_nodes(alloc, log.ordered())?;
     for question in questions {
         push_tallied(alloc, rows, log, &tallies, question, writer)?;
     }

@@ -4,12 +4,13 @@ ghost use Rattle.hlc_log_text.specs.StampForms.{greatest_c};
 ghost use Rattle.hlc_csv.specs.Rows.{AddsRows, Fields, text_of};
 ghost use Rattle.hlc_log_text.specs.ReadLog.{HasTooMany};
 ghost use Rattle.hlc_log_audit.specs.Answers.{AreAnswers};
-ghost use Rattle.hlc_log_audit.specs.Audit.{AreRowsTold, IsAudited, IsOutcome, IsReportIf, TellsEvents, all_asked, counted_row, is_reported, missing_rows, skipped_row, unsent_row};
+ghost use Rattle.hlc_log_audit.specs.Audit.{AreRowsTold, IsAudited, IsOutcome, IsReportIf, TellsEvents, all_asked, counted_row, is_reported, missing_rows, skipped_row, taken_row, taken_rows};
 ghost use Rattle.hlc_log_report.specs.Counts.{AreCounted};
 
 use crate::answer::push_answers;
 use crate::audited::Audited;
 use crate::counts::count_stamps;
+use crate::left_out::push_left_out;
 use crate::outcome::Outcome;
 use crate::overs::push_overs;
 use crate::report::push_report;
@@ -23,18 +24,32 @@ use hlc_stamp::MAX_CAPACITY;
 use std::alloc::Global;
 use std::io::{Read, Write};
 
-// Adds the row that tells how many receives were taken as local events, if they were.
-fn push_unsent<W: Write>(
+// Adds the row that tells how many events were taken in a way, if the rules say so.
+fn push_taken<W: Write>(
     rows: &mut RowBuffer,
-    unsent: Option<u32>,
+    word: &[u8],
+    taken: Option<u32>,
     writer: &mut W,
 ) -> Result<(), OutputFault>
-    ensures { OnOk result (AddsRows W.contents writer.old writer.new rows.old rows.new (unsent_row unsent)) }
+    ensures { OnOk result (AddsRows W.contents writer.old writer.new rows.old rows.new (taken_row word.now taken)) }
 {
-    match unsent {
-        Some(count) => rows.push_numbers(b"unsent", &[u64::from(count)], None, writer),
+    match taken {
+        Some(count) => rows.push_numbers(word, &[u64::from(count)], None, writer),
         None => Ok(()),
     }
+}
+
+// Adds the rows that tell how many receives were taken as local events, and how many sends sent a message again, as far as the rules say so.
+fn push_all_taken<W: Write>(
+    rows: &mut RowBuffer,
+    unsent: Option<u32>,
+    resent: Option<u32>,
+    writer: &mut W,
+) -> Result<(), OutputFault>
+    ensures { OnOk result (AddsRows W.contents writer.old writer.new rows.old rows.new (taken_rows unsent resent)) }
+{
+    push_taken(rows, b"unsent", unsent, writer)?;
+    push_taken(rows, b"resent", resent, writer)
 }
 
 // Adds the row that tells of how many events something is so, if it is of some.
@@ -105,8 +120,8 @@ fn push_if_told<W: Write>(
 ) -> Result<(), OutputFault>
     requires { AreCounted log.now.log log.now.full counts }
     ensures { OnOk result ((report : List Fields)
-        × IsReportIf (is_reported rules (all_asked log.now.questions asked.now)) log.now.nodes log.now.log log.now.full log.now.unsent log.now.skipped
-        rules.limit report
+        × IsReportIf (is_reported rules (all_asked log.now.questions asked.now)) log.now.nodes log.now.log log.now.full log.now.unsent log.now.resent
+        log.now.skipped log.now.left_out rules.limit report
         × AddsRows W.contents writer.old writer.new rows.old rows.new report) }
 {
     if !is_reported(rules, log.questions(), asked) {
@@ -114,10 +129,19 @@ fn push_if_told<W: Write>(
     }
     let ordered = log.ordered();
     let skews = skews_of(alloc, ordered)?;
-    push_report(rows, log, counts, count_messages(ordered), &skews, writer)?;
-    push_unsent(rows, log.unsent(), writer)?;
+    push_report(
+        alloc,
+        rows,
+        log,
+        counts,
+        count_messages(ordered),
+        &skews,
+        writer,
+    )?;
+    push_all_taken(rows, log.unsent(), log.resent(), writer)?;
     push_missing(rows, ordered, log.skipped(), writer)?;
-    push_overs(rows, log, rules.limit, writer)
+    push_left_out(rows, log.left_out(), writer)?;
+    push_overs(alloc, rows, log, rules.limit, writer)
 }
 
 // Adds the answers to the questions of a log, and to those beside it.

@@ -50,12 +50,12 @@ pub(crate) fn push_drift<'a, W: Write>(
     ensures { OnOk result (AddsRow W.contents writer.old writer.new rows.old rows.new
         (drift_row log.now.log name.now (position (bytes_eq name.now) log.now.nodes))) }
 {
+    let ordered = log.ordered();
     let Some(node) = log.nodes().number(name) else {
         return push_missing(rows, Missing::Node, writer);
     };
     let (word, name) = (Text(b"drift"), Text(name));
     let furthest = tallies[node].furthest;
-    let ordered = log.ordered();
     match drift_from(ordered, NodeId(node as u16), furthest) {
         None => rows.push(&[word, name, Text(b"none")], writer),
         Some(drift) => {

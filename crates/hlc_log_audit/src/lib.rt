@@ -21,10 +21,12 @@
 //! - `skew,FROM,TO,AHEAD,SEND,RECEIVE`: how far the clock of one node is ahead of another's by the messages between them, with
 //!   its sign, and the lines of the message that shows it.
 //! - `unsent,N`: how many receives of messages that nobody sends were taken as local events, if `LogRules` say so.
+//! - `resent,N`: how many sends sent a message that an earlier one sent, if `LogRules` say which of them a receive is of.
 //! - `outside,N`: how many receives of such messages tell what these carried, if some do: they came in from outside of the log.
 //! - `unread,N`: how many events have no reading, if there are some.
 //! - `unstamped,N`: how many receives have no stamp, if there are some. Each has the one that the clock rule gives it, and no verdict.
 //! - `skipped,N,LINE`: how many records were left out of the log, and the line of the first, if there are some.
+//! - `left-out,WORD,N,LINE`: how many bad records were left out for a reason of this word, and the line of the first, if there are some.
 //! - `over,NODE,N,LINE,AHEAD,ORIGIN`: how many events of a node claim an `l` that is above their told reading by more than the limit, if
 //!   there is one and there are some; the line of the first of them; the greatest such difference; and the line where that `l` came in.
 //!
@@ -40,7 +42,7 @@
 //!   was given, and `unstamped` in place of a verdict.
 //! - `refused,no-event` or `refused,no-node`, if the log has no such event or node.
 //!
-//! Text that is not a log is answered by the one row `bad,LINE,WHY`, and a line of JSON lines that lacks a column by `bad,LINE,field,NAME`.
+//! Text that is not a log is answered by the one row `bad,LINE,WHY`, which names a column besides if one is missing or badly written.
 //!
 //! Of an opened log (`hlc_open_log`) `push_report` adds the rows of the report, and `push_answer` the one row that answers a question
 //! (`hlc_log_text::LogQuestion`). `claimed_way` is the way that the `l` of a claimed stamp came, event by event.
@@ -99,6 +101,7 @@ mod explanation;
 mod influence;
 mod known;
 pub mod laws;
+mod left_out;
 mod lines;
 mod messages;
 mod nodes;

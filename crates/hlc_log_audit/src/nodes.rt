@@ -12,14 +12,14 @@ use hlc_csv::{OutputFault, RowBuffer};
 use hlc_execution::Execution;
 use hlc_log_report::OrderedLog;
 use hlc_log_text::{Names, node_name};
-use hlc_stamp::{EventId, MAX_NODES, NodeId};
+use hlc_stamp::{EventId, NodeId};
+use std::alloc::Global;
 use std::io::Write;
 
 // The node of an event.
 pub(crate) fn node_of(execution: &Execution, event: EventId) -> NodeId
     requires { event.0 < length execution.now.events }
-    ensures node { result.0 ≡ (skeleton_at execution.now.events event.0).node }
-    ensures small { result.0 < MAX_NODES }
+    ensures { result.0 ≡ (skeleton_at execution.now.events event.0).node }
 {
     execution.get(event).unwrap().node
 }
@@ -34,7 +34,6 @@ fn push_node<W: Write>(
     writer: &mut W,
 ) -> Result<(), OutputFault>
     requires ordered { IsInOrder log.now }
-    requires node { node.0 < MAX_NODES }
     requires events { tally.events ≡ events_at log.now node.0 }
     requires furthest { tally.furthest ≡ furthest_in log.now (length log.now.events) node.0 }
     ensures { OnOk result (AddsRow W.contents writer.old writer.new rows.old rows.new (node_row nodes.now log.now node.0)) }
@@ -54,16 +53,17 @@ fn push_node<W: Write>(
 
 // Adds the rows of the nodes, in the order of their numbers.
 pub(crate) fn push_nodes<W: Write>(
+    alloc: Global,
     rows: &mut RowBuffer,
     nodes: &Names,
     log: &OrderedLog,
     writer: &mut W,
 ) -> Result<(), OutputFault>
     requires ordered { IsInOrder log.now }
-    requires nodes { length nodes.now ≤ MAX_NODES }
+    requires nodes { log.now.nodes ≡ length nodes.now }
     ensures { OnOk result (AddsRows W.contents writer.old writer.new rows.old rows.new (node_rows nodes.now log.now)) }
 {
-    let tallies = tally_nodes(log);
+    let tallies = tally_nodes(alloc, log)?;
     for node in 0..nodes.len() {
         let tally = tallies[node];
         push_node(rows, nodes, log, NodeId(node as u16), tally, writer)?;

@@ -1,6 +1,6 @@
 // The claims of nodes that are over a limit.
 
-ghost use Rattle.std.specs.Prelude.{◌≡◌, ◌+◌, ◌<◌, ◌≤◌, IfSome, List, OnOk, decimal, length};
+ghost use Rattle.std.specs.Prelude.{◌≡◌, ◌+◌, ◌<◌, ◌≤◌, IfOk, IfSome, List, OnOk, decimal, length};
 ghost use Rattle.hlc_stamp.specs.declared.limits.TheConstants.{MAX_CAPACITY};
 ghost use Rattle.hlc_csv.specs.Rows.{AddsRow, AddsRows, Fields};
 ghost use Rattle.hlc_log.specs.Events.{event_at};
@@ -18,7 +18,8 @@ use hlc_csv::{OutputFault, RowBuffer};
 use hlc_log_report::OrderedLog;
 use hlc_log_text::node_name;
 use hlc_open_log::OpenLog;
-use hlc_stamp::{EventId, MAX_NODES, NodeId};
+use hlc_stamp::{EventId, NodeId};
+use std::alloc::{AllocError, Global};
 use std::io::Write;
 
 // One claim more, by a later event, which is so far above its reading.
@@ -51,7 +52,7 @@ fn node_at(log: &OrderedLog, place: EventId) -> NodeId
     requires ordered { IsInOrder log.now }
     requires exists { place.0 < length log.now.events }
     ensures node { result.0 ≡ (event_at log.now.events place.0).node.0 }
-    ensures small { result.0 < MAX_NODES }
+    ensures exists { result.0 < log.now.nodes }
 {
     node_of(log.execution(), log.position(place))
 }
@@ -60,8 +61,8 @@ fn node_at(log: &OrderedLog, place: EventId) -> NodeId
 fn add_claim(log: &OrderedLog, limit: u64, place: EventId, overs: &mut [Option<Over>])
     requires ordered { IsInOrder log.now }
     requires exists { place.0 < length log.now.events }
-    requires before { AreOversBefore limit log.now.events place.0 overs.old }
-    ensures { AreOversBefore limit log.now.events (place.0 + 1) overs.new }
+    requires before { AreOversBefore limit log.now.nodes log.now.events place.0 overs.old }
+    ensures { AreOversBefore limit log.now.nodes log.now.events (place.0 + 1) overs.new }
 {
     let ahead = claimed_ahead(log.at(place));
     if ahead <= limit {
@@ -72,14 +73,14 @@ fn add_claim(log: &OrderedLog, limit: u64, place: EventId, overs: &mut [Option<O
 }
 
 // What of each node's claims is over a limit. It goes over the events once.
-fn overs_of(log: &OrderedLog, limit: u64) -> [Option<Over>; MAX_NODES as usize]
-    ensures { AreOvers limit log.now.events result }
+fn overs_of(alloc: Global, log: &OrderedLog, limit: u64) -> Result<Vec<Option<Over>>, AllocError>
+    ensures { IfOk result (λ overs. AreOvers limit log.now.nodes log.now.events overs.items) }
 {
-    let mut overs = [None; MAX_NODES as usize];
+    let mut overs = vec![in alloc; None; log.execution().nodes() as usize]?;
     for place in 0..log.len() {
         add_claim(log, limit, EventId(place), &mut overs);
     }
-    overs
+    Ok(overs)
 }
 
 // The line where the `l` that the event at a place claims came in.
@@ -138,7 +139,7 @@ fn push_each_over<W: Write>(
     overs: &[Option<Over>],
     writer: &mut W,
 ) -> Result<(), OutputFault>
-    requires { AreOvers limit log.now.log.events overs.now }
+    requires { AreOvers limit (length log.now.nodes) log.now.log.events overs.now }
     ensures { OnOk result (AddsRows W.contents writer.old writer.new rows.old rows.new (over_rows log.now.nodes log.now.log overs.now)) }
 {
     for node in 0..log.nodes().len() {
@@ -150,6 +151,7 @@ fn push_each_over<W: Write>(
 
 // Adds the rows of the nodes whose claims are over the limit, if there is one.
 pub(crate) fn push_overs<W: Write>(
+    alloc: Global,
     rows: &mut RowBuffer,
     log: &OpenLog,
     limit: Option<u64>,
@@ -160,7 +162,7 @@ pub(crate) fn push_overs<W: Write>(
 {
     match limit {
         Some(limit) => {
-            let overs = overs_of(log.ordered(), limit);
+            let overs = overs_of(alloc, log.ordered(), limit)?;
             push_each_over(rows, log, limit, &overs, writer)
         }
         None => Ok(()),

@@ -1,4 +1,4 @@
-ghost use Rattle.std.specs.Prelude.{◌≡◌, ◌<◌, OnOk, length};
+ghost use Rattle.std.specs.Prelude.{◌≡◌, ◌<◌, IfOk, OnOk, length};
 ghost use Rattle.hlc_explain.specs.Findings.{relation_of};
 ghost use Rattle.hlc_csv.specs.Rows.{AddsRow};
 ghost use Rattle.hlc_log_report.specs.InOrder.{IsInOrder, skeleton_of};
@@ -9,27 +9,36 @@ ghost use Rattle.hlc_log_audit.specs.Lines.{position_on};
 use crate::lines::find;
 use crate::words::push_missing;
 use hlc_csv::{OutputFault, RowBuffer};
-use hlc_explain::{Missing, Relation, relation};
+use hlc_explain::{Missing, Relation, relation_with_ends};
 use hlc_log_report::OrderedLog;
 use hlc_log_text::Line;
 use hlc_stamp::EventId;
+use std::alloc::{AllocError, Global};
 use std::io::Write;
 
-// How two events stand in happened-before.
-fn relation_at(log: &OrderedLog, first: EventId, second: EventId) -> Relation
+// How two events stand in happened-before. It takes four bytes of memory for each node.
+fn relation_at(
+    alloc: Global,
+    log: &OrderedLog,
+    first: EventId,
+    second: EventId,
+) -> Result<Relation, AllocError>
     requires first { first.0 < length log.now.events }
     requires second { second.0 < length log.now.events }
     requires ordered { IsInOrder log.now }
-    ensures { result ≡ relation_of (skeleton_of log.now) first.0 second.0 }
+    ensures { IfOk result (λ relation. relation ≡ relation_of (skeleton_of log.now) first.0 second.0) }
 {
-    match relation(log.execution(), first, second) {
-        Ok(found) => found,
+    let execution = log.execution();
+    let mut ends = vec![in alloc; 0; execution.nodes() as usize]?;
+    match relation_with_ends(execution, ends.as_mut_slice(), first, second) {
+        Ok(found) => Ok(found),
         Err(_) => unreachable!(),
     }
 }
 
 // Answers how the events of two lines stand in happened-before.
 pub(crate) fn push_relation<W: Write>(
+    alloc: Global,
     rows: &mut RowBuffer,
     log: &OrderedLog,
     first: Line,
@@ -46,6 +55,11 @@ pub(crate) fn push_relation<W: Write>(
     let Some(other) = find(log, second) else {
         return push_missing(rows, Missing::Event, writer);
     };
-    let word = relation_at(log, one.position, other.position).word();
-    rows.push_numbers(b"relation", &[first.0, second.0], Some(word), writer)
+    let relation = relation_at(alloc, log, one.position, other.position)?;
+    rows.push_numbers(
+        b"relation",
+        &[first.0, second.0],
+        Some(relation.word()),
+        writer,
+    )
 }

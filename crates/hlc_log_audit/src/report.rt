@@ -12,26 +12,28 @@ use crate::messages::push_messages;
 use crate::nodes::push_nodes;
 use crate::skews::push_skews;
 use hlc_csv::{OutputFault, RowBuffer};
-use hlc_log_report::{Counts, MessageCounts, Skew};
+use hlc_log_report::{Counts, MessageCounts, Skew, SkewNodes};
 use hlc_open_log::OpenLog;
-use hlc_stamp::MAX_NODES;
+use std::alloc::Global;
+use std::collections::BTreeMap;
 use std::io::Write;
 
 /// Adds the rows of the report on a log: the counts of the verdicts, the causes, the nodes, the messages and the skews.
 ///
-/// `counts` has those of its verdicts, `messages` those of its messages, and `skews` those to each node. It takes no memory but for the rows.
-/// After a fault nothing is promised of what the writer got.
+/// `counts` has those of its verdicts, `messages` those of its messages, and `skews` the skews between its nodes. It takes memory for each
+/// node, and for the rows. After a fault nothing is promised of what the writer got.
 pub fn push_report<W: Write>(
+    alloc: Global,
     rows: &mut RowBuffer,
     log: &OpenLog,
     counts: Counts,
     messages: MessageCounts,
-    skews: &[[Option<Skew>; MAX_NODES as usize]],
+    skews: &BTreeMap<SkewNodes, Skew>,
     writer: &mut W,
 ) -> Result<(), OutputFault>
     requires counts { AreCounted log.now.log log.now.full counts }
     requires messages { messages ≡ message_counts log.now.log }
-    requires skews { AreSkews (skeleton_of log.now.log) (reading_told log.now.log) skews.now }
+    requires skews { AreSkews (skeleton_of log.now.log) (reading_told log.now.log) skews.now.entries }
     ensures { OnOk result ((report : List Fields) × IsReport log.now.nodes log.now.log log.now.full report
         × AddsRows W.contents writer.old writer.new rows.old rows.new report) }
 {
@@ -39,7 +41,7 @@ pub fn push_report<W: Write>(
     let ordered = log.ordered();
     push_counts(rows, counts, writer)?;
     push_causes(rows, nodes, ordered, counts, log.full(), writer)?;
-    push_nodes(rows, nodes, ordered, writer)?;
+    push_nodes(alloc, rows, nodes, ordered, writer)?;
     push_messages(rows, messages, writer)?;
     push_skews(rows, nodes, ordered, skews, writer)
 }

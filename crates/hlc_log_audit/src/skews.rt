@@ -1,15 +1,15 @@
-ghost use Rattle.std.specs.Prelude.{◌≤◌, ◌∷◌, [], IfSome, List, OnOk, codes, decimal, length};
-ghost use Rattle.hlc_csv.specs.Rows.{AddsRow, AddsRows, Fields};
+ghost use Rattle.std.specs.Prelude.{◌∷◌, [], OnOk, codes, decimal, map};
+ghost use Rattle.hlc_csv.specs.Rows.{AddsRow, AddsRows};
 ghost use Rattle.hlc_log_report.specs.InOrder.{IsInOrder, reading_told, skeleton_of};
-ghost use Rattle.hlc_log_report.specs.Skew.{AreSkews, AreSkewsTo};
-ghost use Rattle.hlc_log_audit.specs.Report.{AreSkewRows, AreSkewRowsTo, IsSkewOfEvents, joined, skew_fields, skew_row};
+ghost use Rattle.hlc_log_report.specs.Skew.{AreSkews};
+ghost use Rattle.hlc_log_audit.specs.Report.{IsSkewOfEvents, skew_row};
 
 use hlc_csv::RowField::{Number, Text};
 use hlc_csv::{OutputFault, RowBuffer};
-use hlc_log_report::{OrderedLog, Skew};
+use hlc_log_report::{OrderedLog, Skew, SkewNodes};
 use hlc_log_text::{Names, node_name};
-use hlc_stamp::{MAX_NODES, NodeId};
 use itoa::Buffer;
+use std::collections::BTreeMap;
 use std::io::Write;
 
 // Adds the row of a skew, by the names of its nodes, how far the first is ahead, and the lines of the send and its delivery.
@@ -30,83 +30,39 @@ fn push_skew_row<'a, W: Write>(
     rows.push(&[Text(b"skew"), from, to, ahead, send, delivery], writer)
 }
 
-// Adds the row of a skew.
+// Adds the row of the skew between two nodes.
 fn push_skew<W: Write>(
     rows: &mut RowBuffer,
     nodes: &Names,
     log: &OrderedLog,
-    from: NodeId,
-    to: NodeId,
+    between: SkewNodes,
     skew: Skew,
     writer: &mut W,
 ) -> Result<(), OutputFault>
     requires { IsSkewOfEvents log.now skew }
-    ensures { OnOk result (AddsRow W.contents writer.old writer.new rows.old rows.new (skew_fields nodes.now log.now from.0 to.0 skew)) }
+    ensures { OnOk result (AddsRow W.contents writer.old writer.new rows.old rows.new (skew_row nodes.now log.now (between, skew))) }
 {
-    let (from, to) = (node_name(nodes, from), node_name(nodes, to));
+    let (from, to) = (node_name(nodes, between.from), node_name(nodes, between.to));
     let lines = (log.event(skew.send).line, log.event(skew.delivery).line);
     let mut text = Buffer::new();
     let ahead = text.format(i128::from(skew.sent_at) - i128::from(skew.delivered_at));
     push_skew_row(rows, from, to, ahead.as_bytes(), lines, writer)
 }
 
-// Adds the row of a skew, if messages show one.
-fn push_if_skew<W: Write>(
-    rows: &mut RowBuffer,
-    nodes: &Names,
-    log: &OrderedLog,
-    from: NodeId,
-    to: NodeId,
-    skew: Option<Skew>,
-    writer: &mut W,
-) -> Result<(), OutputFault>
-    requires { IfSome skew (IsSkewOfEvents log.now) }
-    ensures { OnOk result (AddsRows W.contents writer.old writer.new rows.old rows.new (skew_row nodes.now log.now from.0 to.0 skew)) }
-{
-    match skew {
-        Some(skew) => push_skew(rows, nodes, log, from, to, skew, writer),
-        None => Ok(()),
-    }
-}
-
-// Adds the rows of the skews to a node.
-fn push_skews_to<W: Write>(
-    rows: &mut RowBuffer,
-    nodes: &Names,
-    log: &OrderedLog,
-    skews: &[Option<Skew>],
-    to: NodeId,
-    writer: &mut W,
-) -> Result<(), OutputFault>
-    requires ordered { IsInOrder log.now }
-    requires skews { AreSkewsTo (skeleton_of log.now) (reading_told log.now) to.0 skews.now }
-    requires nodes { length nodes.now ≤ MAX_NODES }
-    ensures { OnOk result ((part : List Fields) × AreSkewRowsTo nodes.now log.now to.0 part
-        × AddsRows W.contents writer.old writer.new rows.old rows.new part) }
-{
-    for from in 0..nodes.len() {
-        let skew = skews[from];
-        push_if_skew(rows, nodes, log, NodeId(from as u16), to, skew, writer)?;
-    }
-    Ok(())
-}
-
-// Adds the rows of all skews, in the order of the numbers of the nodes to which the messages went.
+// Adds the rows of all skews, in the order of the numbers of the nodes to which the messages went, and of those from which they came.
 pub(crate) fn push_skews<W: Write>(
     rows: &mut RowBuffer,
     nodes: &Names,
     log: &OrderedLog,
-    skews: &[[Option<Skew>; MAX_NODES as usize]],
+    skews: &BTreeMap<SkewNodes, Skew>,
     writer: &mut W,
 ) -> Result<(), OutputFault>
     requires ordered { IsInOrder log.now }
-    requires nodes { length nodes.now ≤ MAX_NODES }
-    requires skews { AreSkews (skeleton_of log.now) (reading_told log.now) skews.now }
-    ensures { OnOk result ((parts : List (List Fields)) × AreSkewRows nodes.now log.now parts
-        × AddsRows W.contents writer.old writer.new rows.old rows.new (joined parts)) }
+    requires skews { AreSkews (skeleton_of log.now) (reading_told log.now) skews.now.entries }
+    ensures { OnOk result (AddsRows W.contents writer.old writer.new rows.old rows.new (map (skew_row nodes.now log.now) skews.now.entries)) }
 {
-    for to in 0..nodes.len() {
-        push_skews_to(rows, nodes, log, &skews[to], NodeId(to as u16), writer)?;
+    for (between, skew) in skews {
+        push_skew(rows, nodes, log, *between, *skew, writer)?;
     }
     Ok(())
 }

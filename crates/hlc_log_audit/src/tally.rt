@@ -1,12 +1,13 @@
 // What is counted of the events of each node.
 
-ghost use Rattle.std.specs.Prelude.{◌≡◌, ◌+◌, ◌<◌, length};
+ghost use Rattle.std.specs.Prelude.{◌≡◌, ◌+◌, ◌<◌, IfOk, length};
 ghost use Rattle.hlc_stamp.specs.declared.limits.TheConstants.{MAX_CAPACITY};
 ghost use Rattle.hlc_log_report.specs.InOrder.{IsInOrder};
 ghost use Rattle.hlc_log_audit.specs.Tally.{AreTallies, AreTalliesBefore, further, with_event};
 
 use hlc_log_report::OrderedLog;
-use hlc_stamp::{EventId, MAX_NODES};
+use hlc_stamp::EventId;
+use std::alloc::{AllocError, Global};
 
 // An event, and how far its least stamp is ahead of what its clock read.
 #[derive(Clone, Copy)]
@@ -69,16 +70,16 @@ fn add_event(log: &OrderedLog, position: EventId, tallies: &mut [NodeTally])
 }
 
 // How many events each node has, and which of them is furthest ahead. It goes over the events once.
-pub(crate) fn tally_nodes(log: &OrderedLog) -> [NodeTally; MAX_NODES as usize]
-    ensures { AreTallies log.now result }
+pub(crate) fn tally_nodes(alloc: Global, log: &OrderedLog) -> Result<Vec<NodeTally>, AllocError>
+    ensures { IfOk result (λ tallies. AreTallies log.now tallies.items) }
 {
     let none = NodeTally {
         events: 0,
         furthest: None,
     };
-    let mut tallies = [none; MAX_NODES as usize];
+    let mut tallies = vec![in alloc; none; log.execution().nodes() as usize]?;
     for position in 0..log.len() {
         add_event(log, EventId(position), &mut tallies);
     }
-    tallies
+    Ok(tallies)
 }

@@ -1,18 +1,25 @@
 -- What is drawn of a log.
-use Rattle.std.proofs.Common.{◌≡◌, ◌∙◌, ◌≤◌, ℕ, Option, None, Some, ap, arith, inl, inr, length, subst, sym}
+use Rattle.std.proofs.Common.{◌≡◌, ◌∙◌, ◌≤◌, ℕ, Err, List, Option, None, Some, ap, arith, inl, inr, length, refl, subst, sym}
+use Rattle.std.specs.Prelude.{IsErrOf}
 use Rattle.hlc_causality.specs.declared.receives.Receives.TheVariants.{Tick}
 use Rattle.hlc_stamp.specs.declared.id.EventId.{EventId}
 use Rattle.hlc_diagram.specs.Chosen.{IsMissing}
+use Rattle.hlc_csv.specs.declared.records_fault.RecordsFault.TheVariants.{TooLong}
+use Rattle.hlc_diagram.specs.declared.draw_fault.DrawFault.{DrawFault}
+use Rattle.hlc_diagram.specs.declared.draw_fault.DrawFault.TheVariants as drawing
 use Rattle.hlc_diagram.specs.declared.view.View.{View}
 use Rattle.hlc_log_report.specs.InOrder.{IsInOrder, LogInOrder}
-use Rattle.hlc_open_log.specs.Opened.{IsReordered, OpenedLog}
+use Rattle.hlc_open_log.specs.Opened.{IsOpened, IsReordered, OpenedLog}
 use Rattle.hlc_log_picture.specs.Drawn.{DrawnLog, IsDrawnOf}
 use Rattle.hlc_log_picture.specs.Judged.{AreEventFindings}
 use Rattle.hlc_log_picture.specs.StampOrder.{IsInStampOrder}
 use Rattle.hlc_log_picture.specs.Viewed.{NamesRow}
 use Rattle.hlc_command_line.specs.declared.line_order.LogRows.{LogRows}
 use Rattle.hlc_command_line.specs.declared.line_order.LogRows.TheVariants.{Around, Between}
-use Rattle.hlc_log_commands.specs.DrawnLog.{IsAbsent, IsViewOf}
+use Rattle.hlc_command_fault.specs.Fault.{IsOfAnswer, draw_stop}
+use Rattle.hlc_command_fault.specs.declared.command_fault.CommandFault.TheVariants.{Records}
+use Rattle.hlc_command_line.specs.declared.line_order.DrawLogOptions.{DrawLogOptions}
+use Rattle.hlc_log_commands.specs.DrawnLog.{IsAbsent, IsLogDrawnUpToBut, IsOpenedLacking, IsViewOf}
 
 -- the row of a line is missing only if the line has no event
 row_absent : (drawn : DrawnLog) (line : Option ℕ) (row : Option EventId) → NamesRow drawn line row → IsMissing drawn.log.events row → IsAbsent drawn line
@@ -49,3 +56,17 @@ drawn_of opened ordered drawn same in_order by_stamp log nodes labels judged = r
       subst (λ (full : ℕ). AreEventFindings drawn.log full drawn.findings) same.full
       (subst (λ (l : LogInOrder). AreEventFindings l ordered.full drawn.findings) (sym log) judged);
 }
+
+-- the fault of drawing an opened log is of an answer only if the log lacks an event that is named
+pub told_but : (most : ℕ) (options : DrawLogOptions) (input before after : Option (List ℕ)) (opened : OpenedLog) (fault : DrawFault)
+    → IsOpened options.records most input opened → (IsErrOf {T = Unit {0}} (Err fault) drawing.NoEvent → IsOpenedLacking opened options.part before after)
+    → IsOfAnswer (draw_stop fault) → IsLogDrawnUpToBut most (draw_stop fault) options input before after
+told_but most options input before after opened drawing.NoEvent is lacks told = (opened, is, lacks refl)
+told_but most options input before after opened drawing.Write is lacks told = absurd told
+told_but most options input before after opened drawing.Memory is lacks told = absurd told
+
+-- it is never that there are too many records
+pub never_too_long : (fault : DrawFault) → IsErrOf {T = Unit {0}} (Err (draw_stop fault)) (Records TooLong) → ⊥
+never_too_long drawing.NoEvent is = absurd cc
+never_too_long drawing.Write is = absurd cc
+never_too_long drawing.Memory is = absurd cc

@@ -19,7 +19,7 @@ use Rattle.hlc_log.proofs.UnsentEvents.{nothing_taken}
 use Rattle.hlc_log_text.specs.declared.log_text.LogText.{LogText}
 use Rattle.hlc_log_text.specs.declared.question.LogQuestion.{LogQuestion}
 use Rattle.hlc_open_log.proofs.OpenedLogs.{no_memory}
-use Rattle.hlc_log_audit.specs.Audit.{IsTextAudited, IsTold, all_asked, counted_row, missing_rows, unread_row, unsent_row, unstamped_row}
+use Rattle.hlc_log_audit.specs.Audit.{IsTextAudited, IsTold, all_asked, counted_row, missing_rows, taken_rows, unread_row, unstamped_row}
 use Rattle.hlc_log_audit.specs.Laws.{IsCleanReport}
 use Rattle.hlc_log_audit.specs.Report.{IsReport}
 use Rattle.hlc_log_audit.specs.declared.outcome.Outcome.{Outcome}
@@ -33,6 +33,8 @@ use Rattle.hlc_log_report.proofs.Filled.{filled_told}
 use Rattle.hlc_log_report.proofs.Ordering.{order_len}
 use Rattle.hlc_log_audit.proofs.CleanReports.{least_stamps_are_sound, least_stamps_report_clean}
 use Rattle.hlc_log_audit.proofs.SameAudits.{told_report}
+use Rattle.hlc_log_audit.specs.LeftOut.{left_out_rows}
+use Rattle.hlc_log_text.specs.declared.bad_log.BadLine.{BadLine}
 use Rattle.hlc_history_log.specs.Laws.{IsClocked, IsLogRead}
 use Rattle.hlc_history_log.proofs.HistoryLogs.{IsHistoryLog}
 use Rattle.hlc_history_log.proofs.InOrder.{stamps_told}
@@ -134,7 +136,10 @@ module _ (h : History) (clocked : IsClocked h) (report : Bool) (text : LogText) 
       subst (IsReport opened.nodes log opened.full)
       (sym (
       whole.4
-      ∙ ap (λ (unsent : Option ℕ). ((whole.0 ++ unsent_row unsent) ++ missing_rows log.events opened.skipped) ++ whole.1) is.ordered.taken
+      ∙ ap (λ (left_out : List BadLine). (((whole.0 ++ taken_rows opened.unsent opened.resent) ++ missing_rows log.events opened.skipped) ++ left_out_rows left_out) ++ whole.1)
+      (is.left_out ∙ alone.3)
+      ∙ ap (λ (rows : List Fields). rows ++ whole.1) (append-nil ((whole.0 ++ taken_rows opened.unsent opened.resent) ++ missing_rows log.events opened.skipped))
+      ∙ (λ i. ((whole.0 ++ taken_rows (is.ordered.taken i) (is.ordered.again i)) ++ missing_rows log.events opened.skipped) ++ whole.1)
       ∙ ap (λ (missing : List Fields). ((whole.0 ++ []) ++ missing) ++ whole.1) ((λ i. missing_rows (events i) (none_skipped i)) ∙ nothing_missing)
       ∙ ap (λ (over : List Fields). ((whole.0 ++ []) ++ []) ++ over) whole.3
       ∙ append-nil ((whole.0 ++ []) ++ []) ∙ append-nil (whole.0 ++ []) ∙ append-nil whole.0

@@ -7,9 +7,8 @@ ghost use Rattle.hlc_log_report.specs.InOrder.{AreFilled, IsInOrder, LogInOrder}
 ghost use Rattle.hlc_log_report.specs.Messages.{message_counts};
 
 use hlc_causality::Receives;
-use hlc_log::{Log, OrderFault, causal_order};
+use hlc_log::{Log, MAX_LOG_NODES, OrderFault, causal_order};
 use hlc_log_report::{MessageCounts, OrderedLog, count_messages};
-use hlc_stamp::MAX_NODES;
 use std::alloc::Global;
 
 /// How many messages a log tells of, or why it has no causal order. Messages have numbers below `messages`.
@@ -21,6 +20,6 @@ pub fn messages_of(alloc: Global, log: Log, messages: u32) -> Result<MessageCoun
     ensures fault { IfErr result (IsFaultOf log.events) }
 {
     let order = causal_order(alloc, &log, messages)?;
-    let ordered = OrderedLog::new(alloc, log, order, messages, MAX_NODES, Receives::Tick)?;
+    let ordered = OrderedLog::new(alloc, log, order, messages, MAX_LOG_NODES, Receives::Tick)?;
     Ok(count_messages(&ordered))
 }

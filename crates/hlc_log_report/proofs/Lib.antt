@@ -12,4 +12,5 @@ pub mod Ordering
 pub mod Rearranged
 pub mod ReorderedTraces
 pub mod SeenTraces
+pub mod SkewOrder
 pub mod SamePlaces

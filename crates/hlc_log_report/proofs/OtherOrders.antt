@@ -3,7 +3,8 @@ use Rattle.std.proofs.Common.{◌≡◌, ◌∙◌, inr, false, ℕ, ◌<◌, �
 use Rattle.std.specs.Prelude.{All, slice_index_or}
 use Rattle.hlc_stamp.specs.Ids.{places_of}
 use Rattle.hlc_stamp.specs.declared.id.EventId.{EventId}
-use Rattle.hlc_stamp.specs.declared.limits.TheConstants.{MAX_CAPACITY, MAX_NODES}
+use Rattle.hlc_stamp.specs.declared.limits.TheConstants.{MAX_CAPACITY}
+use Rattle.hlc_log.specs.declared.log_event.TheConstants.{MAX_LOG_NODES}
 use Rattle.hlc_causality.specs.declared.receives.Receives.{Receives}
 use Rattle.hlc_causality.specs.Assignment.{pair_at}
 use Rattle.hlc_causality.specs.Causality.{IsSendOf}
@@ -125,7 +126,7 @@ module _ (log : LogInOrder) (ordered : IsInOrder log) (stored : StoredLog) (same
       → IsExecutionOf log.events (places_of order) x → x.rules.receives ≡ log.receives → x.nodes ≡ log.nodes → AreParts stored order positions x
   reordered_parts whole are is receives nodes = record {
     few = subst (λ (es : List LogEvent). length es ≤ MAX_CAPACITY) (sym same) ordered.few;
-    few_nodes = subst (λ (n : ℕ). n ≤ MAX_NODES) (sym nodes) ordered.few_nodes;
+    few_nodes = subst (λ (n : ℕ). n ≤ MAX_LOG_NODES) (sym nodes) ordered.few_nodes;
     of_nodes = subst (AreOfNodes x.nodes) (sym same) (subst (λ (n : ℕ). AreOfNodes n log.events) (sym nodes) ordered.of_nodes);
     in_range = subst (All IsInRange) (sym same) ordered.in_range;
     messages = subst AreMessagesSound (sym same) ordered.messages;

@@ -2,7 +2,8 @@
 use Rattle.std.specs.Prelude.{◌≡◌, ◌≢◌, ℕ, ◌+◌, ◌++◌, Bool, false, ◌<◌, ◌≤◌, All, Option, Some, None, List, [], ◌∷◌, length, map, if◌then◌else◌, slice_index_or, slice_set}
 use Rattle.hlc_stamp.specs.declared.id.EventId.{EventId}
 use Rattle.hlc_stamp.specs.Ids.{places_of}
-use Rattle.hlc_stamp.specs.declared.limits.TheConstants.{MAX_CAPACITY, MAX_NODES}
+use Rattle.hlc_stamp.specs.declared.limits.TheConstants.{MAX_CAPACITY}
+use Rattle.hlc_log.specs.declared.log_event.TheConstants.{MAX_LOG_NODES}
 use Rattle.hlc_stamp.specs.Order.{Pair}
 use Rattle.hlc_causality.specs.Causality.{Skeleton, SkeletonEvent, skeleton_at}
 use Rattle.hlc_causality.specs.declared.receives.Receives.{Receives}
@@ -134,7 +135,7 @@ IsGivenStamps log = AreGivenBefore log (length log.order)
 -- readings and floors are in range, and the stamps of restarts are told
 pub record IsInOrder (log : LogInOrder) : Type 0 where
   pub few : length log.events ≤ MAX_CAPACITY
-  pub few_nodes : log.nodes ≤ MAX_NODES
+  pub few_nodes : log.nodes ≤ MAX_LOG_NODES
   pub of_nodes : AreOfNodes log.nodes log.events
   pub in_range : All IsInRange log.events
   pub messages : AreMessagesSound log.events
@@ -200,7 +201,7 @@ log_in_order log order execution = record {
 -- the parts that a log in order is kept in agree
 pub record AreParts (log : StoredLog) (order positions : List EventId) (execution : StoredExecution) : Type 0 where
   pub few : length log.events ≤ MAX_CAPACITY
-  pub few_nodes : execution.nodes ≤ MAX_NODES
+  pub few_nodes : execution.nodes ≤ MAX_LOG_NODES
   pub of_nodes : AreOfNodes execution.nodes log.events
   pub in_range : All IsInRange log.events
   pub messages : AreMessagesSound log.events

@@ -1,9 +1,14 @@
 -- Skew: how far one node's clock is ahead of another's, as the messages between them show it.
-use Rattle.std.specs.Prelude.{◌≡◌, ℕ, Bool, true, ◌+◌, ◌<◌, ◌≤◌, Option, Some, None, List, [], length, if◌then◌else◌, nat_le, slice_index_or}
+use Rattle.std.specs.Prelude.{◌≡◌, ◌≢◌, ℕ, Bool, true, false, ◌+◌, ◌<◌, ◌≤◌, Option, Some, None, List, length, nat_lt}
+use Rattle.std.specs.BTreeMap.{is_at}
+use Rattle.std.specs.List.Sorted.{IsStrictlySortedBy}
+use Rattle.std.specs.Map.{keys_of, lookup}
+use Rattle.std.specs.Ordering.{nat_cmp, ordering_then}
+use Rattle.std.specs.declared.cmp.Ordering.{Ordering}
 use Rattle.hlc_stamp.specs.declared.id.EventId.{EventId}
-use Rattle.hlc_stamp.specs.declared.limits.TheConstants.{MAX_NODES}
 use Rattle.hlc_causality.specs.Causality.{IsSendOf, Skeleton, skeleton_at}
 use Rattle.hlc_log_report.specs.declared.skew.Skew.{Skew}
+use Rattle.hlc_log_report.specs.declared.skew_nodes.SkewNodes.{SkewNodes}
 
 -- f delivers what e sends, and at both it is told what the clock read
 pub record IsToldSend (s : Skeleton) (told : ℕ → Bool) (e f : ℕ) : Type 0 where
@@ -44,26 +49,36 @@ abbrev pub NamesSkewBefore : Skeleton → (told : ℕ → Bool) → (n from to :
 NamesSkewBefore s told n from to None = (e f : ℕ) → f < n → ¬ IsMessage s told from to e f
 NamesSkewBefore s told n from to (Some skew) = IsSkewBefore s told n from to skew
 
--- an answer for each node: the skew from it to one node
-pub record AreSkewsBefore (s : Skeleton) (told : ℕ → Bool) (n to : ℕ) (skews : List (Option Skew)) : Type 0 where
-  pub nodes : length skews ≡ MAX_NODES
-  pub each : (from : ℕ) → from < MAX_NODES → NamesSkewBefore s told n from to (slice_index_or skews from None)
+-- skews by their nodes
+abbrev pub Skews : Type 0
+Skews = List (SkewNodes × Skew)
+
+-- the order of nodes: by the one to which messages went, then by the one from which they came
+abbrev pub by_nodes : SkewNodes → SkewNodes → Ordering
+by_nodes x y = ordering_then (nat_cmp x.to.0 y.to.0) (nat_cmp x.from.0 y.from.0)
+
+-- the skew of two nodes, if it is among these
+abbrev pub skew_between : Skews → SkewNodes → Option Skew
+skew_between skews nodes = lookup (is_at (by_nodes nodes)) skews
+
+-- in the order of their nodes, the skews that messages show which are delivered before n: of any two nodes that from the one to the other, if there
+-- is one
+pub record AreSkewsBefore (s : Skeleton) (told : ℕ → Bool) (n : ℕ) (skews : Skews) : Type 0 where
+  pub sorted : IsStrictlySortedBy by_nodes (keys_of skews)
+  pub each : (nodes : SkewNodes) → NamesSkewBefore s told n nodes.from.0 nodes.to.0 (skew_between skews nodes)
 
 -- the same of all messages
-abbrev pub AreSkewsTo : Skeleton → (told : ℕ → Bool) → ℕ → List (Option Skew) → Type 0
-AreSkewsTo s told to skews = AreSkewsBefore s told (length s) to skews
+abbrev pub AreSkews : Skeleton → (told : ℕ → Bool) → Skews → Type 0
+AreSkews s told skews = AreSkewsBefore s told (length s) skews
 
--- answers for each node: the skews to it that messages show which are delivered before n
-pub record AreAllSkewsBefore (s : Skeleton) (told : ℕ → Bool) (n : ℕ) (skews : List (List (Option Skew))) : Type 0 where
-  pub nodes : length skews ≡ MAX_NODES
-  pub each : (to : ℕ) → to < MAX_NODES → AreSkewsBefore s told n to (slice_index_or skews to [])
+-- whether a skew is greater than the greatest before it, if there is one
+abbrev pub is_greater : Skew → Option Skew → Bool
+is_greater skew None = true
+is_greater skew (Some first) = nat_lt (first.sent_at + skew.delivered_at) (skew.sent_at + first.delivered_at)
 
--- the same of all messages
-abbrev pub AreSkews : Skeleton → (told : ℕ → Bool) → List (List (Option Skew)) → Type 0
-AreSkews s told skews = AreAllSkewsBefore s told (length s) skews
-
--- the greater of two skews, the first if they are equal
-abbrev pub greater_skew : Option Skew → Skew → Skew
-greater_skew None second = second
-greater_skew (Some first) second =
-    if nat_le (second.sent_at + first.delivered_at) (first.sent_at + second.delivered_at) then first else second
+-- of two nodes the greater skew is kept now, the first if they are equal; others are as they were
+pub record TakesSkew (before after : Skews) (nodes : SkewNodes) (skew : Skew) : Type 0 where
+  pub sorted : IsStrictlySortedBy by_nodes (keys_of before) → IsStrictlySortedBy by_nodes (keys_of after)
+  pub greater : is_greater skew (skew_between before nodes) ≡ true → skew_between after nodes ≡ Some skew
+  pub first : is_greater skew (skew_between before nodes) ≡ false → skew_between after nodes ≡ skew_between before nodes
+  pub others : (other : SkewNodes) → other ≢ nodes → skew_between after other ≡ skew_between before other

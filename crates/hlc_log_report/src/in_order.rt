@@ -11,9 +11,9 @@ ghost use Rattle.hlc_log_report.specs.InOrder.{AreOfNodes, HasOneMore, IsExecuti
 use hlc_causality::Receives;
 use hlc_causes::push_least;
 use hlc_execution::Execution;
-use hlc_log::{Log, LogEvent, LogKind};
+use hlc_log::{Log, LogEvent, LogKind, MAX_LOG_NODES};
 use hlc_pages::Link;
-use hlc_stamp::{EventId, MAX_CAPACITY, MAX_NODES};
+use hlc_stamp::{EventId, MAX_CAPACITY};
 use std::alloc::{AllocError, Global};
 
 // The events of a log in a causal order, with the least stamps that they can have. Messages have numbers below `messages`.
@@ -26,7 +26,7 @@ pub(crate) fn execution_in(
     receives: Receives,
 ) -> Result<Execution, AllocError>
     requires few { length log.now.events ≤ MAX_CAPACITY }
-    requires few_nodes { nodes ≤ MAX_NODES }
+    requires few_nodes { nodes ≤ MAX_LOG_NODES }
     requires named { AreOfNodes nodes log.now.events }
     requires numbered { All (IsNumbered messages) log.now.events }
     requires in_range { All IsInRange log.now.events }

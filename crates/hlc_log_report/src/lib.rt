@@ -8,7 +8,7 @@
 //!   told.
 //! - `count_findings` says how many of the stamps that the log tells have each verdict: `Counts`.
 //! - `count_messages` says how many messages were sent and received, received more than once, and never: `MessageCounts`.
-//! - `skews_of` says of each two nodes how far the clock of one is ahead of the other's, as messages show it: a `Skew` each.
+//! - `skews_of` says of each two nodes how far the clock of one is ahead of the other's, as messages show it: a `Skew` each, by its `SkewNodes`.
 //! - `count_missing` says of how many events something isn't in the log: their send, what their clock read, or the stamp of a receive:
 //!   `MissingCounts`. Without a reading an event shows no skew; without a stamp it is no cause, and has no verdict.
 //! - `laws` says that verdicts, causes, skews and the stamps that are given don't depend on the order in which the log tells of its events,
@@ -30,7 +30,7 @@
 //!     ensures fault { IfErr result (IsFaultOf log.events) }
 //! {
 //!     let order = causal_order(alloc, &log, messages)?;
-//!     let ordered = OrderedLog::new(alloc, log, order, messages, MAX_NODES, Receives::Tick)?;
+//!     let ordered = OrderedLog::new(alloc, log, order, messages, MAX_LOG_NODES, Receives::Tick)?;
 //!     Ok(count_messages(&ordered))
 //! }
 //! ```
@@ -45,6 +45,7 @@ mod missing;
 mod ordered_log;
 mod reordering;
 mod skew;
+mod skew_nodes;
 mod skews;
 
 pub use counts::{Counts, count_findings};
@@ -52,4 +53,5 @@ pub use messages::{MessageCounts, count_messages};
 pub use missing::{MissingCounts, count_missing};
 pub use ordered_log::OrderedLog;
 pub use skew::Skew;
+pub use skew_nodes::SkewNodes;
 pub use skews::skews_of;

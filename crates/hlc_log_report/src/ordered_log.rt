@@ -17,8 +17,8 @@ use crate::reordering::reordered_execution;
 use hlc_causality::Receives;
 use hlc_causes::{Causes, Claims, Finding, Seen, causes_at, finding};
 use hlc_execution::Execution;
-use hlc_log::{Log, LogEvent};
-use hlc_stamp::{EventId, MAX_CAPACITY, MAX_NODES, Stamp};
+use hlc_log::{Log, LogEvent, MAX_LOG_NODES};
+use hlc_stamp::{EventId, MAX_CAPACITY, Stamp};
 use std::alloc::{AllocError, Global};
 use std::marker::Model;
 
@@ -74,7 +74,7 @@ impl OrderedLog {
         nodes: u16,
         receives: Receives,
     ) -> Result<OrderedLog, AllocError>
-        requires few { nodes ≤ MAX_NODES }
+        requires few { nodes ≤ MAX_LOG_NODES }
         requires named { AreOfNodes nodes log.events }
         requires numbered { All (IsNumbered messages) log.events }
         requires in_range { All IsInRange log.events }

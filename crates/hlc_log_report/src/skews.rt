@@ -1,40 +1,27 @@
-ghost use Rattle.std.specs.Prelude.{◌≡◌, ◌+◌, ◌<◌, ℕ, Bool, IfOk, length, nat_le};
-ghost use Rattle.hlc_causality.specs.Causality.{IsSendOf, Skeleton, skeleton_at};
+ghost use Rattle.std.specs.Prelude.{◌≡◌, ◌+◌, ◌<◌, IfOk, OnOk, length, nat_lt};
+ghost use Rattle.hlc_causality.specs.Causality.{IsSendOf, skeleton_at};
 ghost use Rattle.hlc_log_report.specs.InOrder.{IsInOrder, reading_told, skeleton_of};
-ghost use Rattle.hlc_log_report.specs.Skew.{AreAllSkewsBefore, AreSkews, AreSkewsBefore, NamesToldSend, greater_skew};
+ghost use Rattle.hlc_log_report.specs.Skew.{AreSkews, AreSkewsBefore, NamesToldSend, TakesSkew, is_greater};
 
 use crate::ordered_log::OrderedLog;
 use crate::skew::Skew;
+use crate::skew_nodes::SkewNodes;
 use hlc_execution::Execution;
-use hlc_stamp::{EventId, MAX_NODES, NodeId};
+use hlc_stamp::{EventId, NodeId};
 use std::alloc::{AllocError, Global};
+use std::collections::BTreeMap;
 
-/// For each node the skews to it: of each node the skew that its messages to the one show, if there are such messages. A message shows
-/// none if the log doesn't tell what the clock read at one of its ends.
+/// The skews of nodes: for each two that messages went between, the skew that these show, if they show one. A message shows none if the
+/// log doesn't tell what the clock read at one of its ends.
 ///
-/// It goes over the events once, and takes 128 KiB of memory, whatever they are.
-pub fn skews_of(
-    alloc: Global,
-    log: &OrderedLog,
-) -> Result<Vec<[Option<Skew>; MAX_NODES as usize]>, AllocError>
-    ensures { IfOk result (λ skews. AreSkews (skeleton_of log.now) (reading_told log.now) skews.items) }
+/// It goes over the events once, and takes memory for each two nodes that have a skew.
+pub fn skews_of(alloc: Global, log: &OrderedLog) -> Result<BTreeMap<SkewNodes, Skew>, AllocError>
+    ensures { IfOk result (λ skews. AreSkews (skeleton_of log.now) (reading_told log.now) skews.entries) }
 {
-    let mut skews = no_skews(alloc)?;
+    let mut skews = BTreeMap::new(alloc);
     for position in 0..log.len() {
         let event = EventId(position);
-        let to = node_at(log, event).0 as usize;
-        add_delivery(log, event, &mut skews[to]);
-    }
-    Ok(skews)
-}
-
-// No skew to any node.
-fn no_skews(alloc: Global) -> Result<Vec<[Option<Skew>; MAX_NODES as usize]>, AllocError>
-    ensures { IfOk result (λ skews. (s : Skeleton) (told : ℕ → Bool) → AreAllSkewsBefore s told 0 skews.items) }
-{
-    let mut skews = Vec::with_capacity(alloc, MAX_NODES as usize)?;
-    for _node in 0..MAX_NODES {
-        skews.push_reserved([None; MAX_NODES as usize]);
+        add_delivery(log, event, &mut skews)?;
     }
     Ok(skews)
 }
@@ -54,27 +41,45 @@ fn told_send(log: &OrderedLog, event: EventId) -> Option<EventId>
 }
 
 // Looks at an event: if it is a delivery, the skew from the node of its send may be greater now.
-fn add_delivery(log: &OrderedLog, event: EventId, skews: &mut [Option<Skew>])
+fn add_delivery(
+    log: &OrderedLog,
+    event: EventId,
+    skews: &mut BTreeMap<SkewNodes, Skew>,
+) -> Result<(), AllocError>
     requires ordered { IsInOrder log.now }
     requires exists { event.0 < length log.now.events }
-    requires nodes { length skews.old ≡ MAX_NODES }
-    ensures { let s = skeleton_of log.now in let told = reading_told log.now in let to = (skeleton_at s event.0).node in
-        AreSkewsBefore s told event.0 to skews.old → AreSkewsBefore s told (event.0 + 1) to skews.new }
+    requires before { AreSkewsBefore (skeleton_of log.now) (reading_told log.now) event.0 skews.old.entries }
+    ensures { OnOk result (AreSkewsBefore (skeleton_of log.now) (reading_told log.now) (event.0 + 1) skews.new.entries) }
 {
     let Some(send) = told_send(log, event) else {
-        return;
+        return Ok(());
     };
-    let from = node_at(log, send).0 as usize;
+    let to = node_at(log, event);
+    let from = node_at(log, send);
     let skew = skew_of(log.execution(), send, event);
-    skews[from] = Some(greater(skews[from], skew));
+    take_skew(skews, SkewNodes { to, from }, skew)
+}
+
+// Takes in what one more message between two nodes shows, if it is greater than what those before it show.
+fn take_skew(
+    skews: &mut BTreeMap<SkewNodes, Skew>,
+    nodes: SkewNodes,
+    skew: Skew,
+) -> Result<(), AllocError>
+    ensures { OnOk result (TakesSkew skews.old.entries skews.new.entries nodes skew) }
+{
+    let first = skews.get(&nodes).copied();
+    if is_greater(skew, first) {
+        skews.insert(nodes, skew)?;
+    }
+    Ok(())
 }
 
 // The node of the event at a position.
 fn node_at(log: &OrderedLog, event: EventId) -> NodeId
     requires ordered { IsInOrder log.now }
     requires exists { event.0 < length log.now.events }
-    ensures node { result.0 ≡ (skeleton_at (skeleton_of log.now) event.0).node }
-    ensures small { result.0 < MAX_NODES }
+    ensures { result.0 ≡ (skeleton_at (skeleton_of log.now) event.0).node }
 {
     node_of(log.execution(), event)
 }
@@ -82,8 +87,7 @@ fn node_at(log: &OrderedLog, event: EventId) -> NodeId
 // The node of an event.
 fn node_of(execution: &Execution, event: EventId) -> NodeId
     requires { event.0 < length execution.now.events }
-    ensures node { result.0 ≡ (skeleton_at execution.now.events event.0).node }
-    ensures small { result.0 < MAX_NODES }
+    ensures { result.0 ≡ (skeleton_at execution.now.events event.0).node }
 {
     execution.get(event).unwrap().node
 }
@@ -112,24 +116,24 @@ fn skew_of(execution: &Execution, send: EventId, delivery: EventId) -> Skew
     }
 }
 
-// The greater of two skews, the first if they are equal.
-fn greater(first: Option<Skew>, second: Skew) -> Skew
-    ensures { result ≡ greater_skew first second }
+// Whether a skew is greater than those before it, of which this is the greatest, if there are some.
+fn is_greater(skew: Skew, first: Option<Skew>) -> bool
+    ensures { result ≡ is_greater skew first }
 {
     match first {
-        Some(first) if is_at_most(second, first) => first,
-        _ => second,
+        None => true,
+        Some(first) => is_above(skew, first),
     }
 }
 
-// Whether a skew is at most another.
-fn is_at_most(skew: Skew, other: Skew) -> bool
-    ensures { result ≡ nat_le (skew.sent_at + other.delivered_at) (other.sent_at + skew.delivered_at) }
+// Whether a skew is greater than another.
+fn is_above(skew: Skew, other: Skew) -> bool
+    ensures { result ≡ nat_lt (other.sent_at + skew.delivered_at) (skew.sent_at + other.delivered_at) }
 {
     let (sent_at, delivered_at) = (u128::from(skew.sent_at), u128::from(skew.delivered_at));
     let (other_sent_at, other_delivered_at) = (
         u128::from(other.sent_at),
         u128::from(other.delivered_at),
     );
-    sent_at + other_delivered_at <= other_sent_at + delivered_at
+    sent_at + other_delivered_at > other_sent_at + delivered_at
 }

@@ -5,8 +5,9 @@ ghost use Rattle.hlc_stamp.specs.declared.limits.TheConstants.{MAX_CAPACITY};
 
 use crate::slow::Slow;
 use hlc_causality::Receives;
+use hlc_log::Resent;
 use hlc_log_audit::{AuditRules, Audited, Outcome, RecordsFault, audit_run, audit_up_to};
-use hlc_log_text::{LogRules, PackedBits, RecordSyntax, StampForm};
+use hlc_log_text::{FaultRule, LogRules, PackedBits, RecordSyntax, StampForm};
 use std::alloc::Global;
 use std::io::{self, ErrorKind, Write};
 use std::process::Abort;
@@ -20,6 +21,8 @@ pub(crate) const PAIRS: AuditRules = AuditRules {
         tolerance: 0,
         receives: Receives::Tick,
         unsent_local: false,
+        resent: None,
+        faults: FaultRule::First,
     },
     limit: None,
     report: false,
@@ -56,6 +59,8 @@ const UNSENT_LOCAL: AuditRules = AuditRules {
         tolerance: 0,
         receives: Receives::Tick,
         unsent_local: true,
+        resent: None,
+        faults: FaultRule::First,
     },
     limit: None,
     report: false,
@@ -69,6 +74,8 @@ const DOTTED: AuditRules = AuditRules {
         tolerance: 0,
         receives: Receives::Tick,
         unsent_local: false,
+        resent: None,
+        faults: FaultRule::First,
     },
     limit: None,
     report: false,
@@ -197,6 +204,43 @@ static UNSENT: [(&str, &str, Outcome); 3] = [
 #[test]
 fn unsent_messages_may_be_local(rt: HostRuntime) {
     expect_reports(&rt, rt.alloc(), UNSENT_LOCAL, &UNSENT);
+}
+
+// A message is sent again, and received before that, after it, and by a receive that tells the stamp of the first send.
+const RETRIED: &str =
+    "kind,node,reading,l,c,message,carried_l,carried_c\nsend,a,10,10,0,m,,\nreceive,b,11,11,0,m,,\n\
+    send,a,20,20,0,m,,\nreceive,b,15,20,1,m,,\nreceive,c,22,22,0,m,10,0\n";
+
+// Which send receives are of that don't tell it, the rows of that log, and the outcome.
+static RESENT: [(Option<Resent>, &str, Outcome); 3] = [
+    (
+        Some(Resent::First),
+        "count,least,4\ncount,ahead,1\ncause,5,b,ahead,15,0\n\
+        node,a,2,0,2,2\nnode,b,2,0,3,3\nnode,c,1,0,6,6\nmessages,2,3,1,1\nskew,a,b,-1,2,3\nskew,a,c,-12,2,6\nresent,1\n",
+        Outcome::Sound,
+    ),
+    (
+        Some(Resent::Last),
+        "count,least,5\n\
+        node,a,2,0,2,2\nnode,b,2,5,5,4\nnode,c,1,0,6,6\nmessages,2,3,1,0\nskew,a,b,5,4,5\nskew,a,c,-12,2,6\nresent,1\n",
+        Outcome::Sound,
+    ),
+    (None, "bad,4,sent-twice\n", Outcome::BadLog),
+];
+
+#[test]
+fn messages_may_be_sent_again(rt: HostRuntime) {
+    for (resent, rows, outcome) in &RESENT {
+        let rules = AuditRules {
+            records: LogRules {
+                syntax: RecordSyntax::Csv,
+                resent: *resent,
+                ..PAIRS.records
+            },
+            ..PAIRS
+        };
+        expect_report(&rt, rt.alloc(), RETRIED.as_bytes(), rules, rows, *outcome);
+    }
 }
 
 // At neither receive does the clock count on, nor at the last one is it read, whose reading is above the stamp.
@@ -386,12 +430,12 @@ static CARRIED: [(&str, &str, Outcome); 12] = [
     // A stamp of which half is told, or with no room above it.
     (
         "kind,node,reading,l,c,message,carried_l,carried_c\nreceive,b,5,12,1,m,12,\n",
-        "bad,2,number\n",
+        "bad,2,number,carried_c\n",
         Outcome::BadLog,
     ),
     (
         "kind,node,reading,l,c,message,carried_l,carried_c\nreceive,b,5,12,1,m,12,2147483647\n",
-        "bad,2,number\n",
+        "bad,2,number,carried_c\n",
         Outcome::BadLog,
     ),
 ];
@@ -573,7 +617,7 @@ static WITH_A_DOT: [(&str, &str, Outcome); 4] = [
         "count,least,3\nnode,a,2,0,1,1\nnode,b,1,0,3,2\nmessages,1,1,0,0\nskew,a,b,0,2,3\n",
         Outcome::Sound,
     ),
-    ("local,a,10,10\n", "bad,1,number\n", Outcome::BadLog),
+    ("local,a,10,10\n", "bad,1,number,stamp\n", Outcome::BadLog),
     (
         "kind,carried,stamp,node,reading,message\nreceive,10.2,10.3,b,5,m\n",
         "count,least,1\nnode,b,1,5,2,2\nmessages,0,0,0,0\noutside,1\n",

@@ -2,6 +2,7 @@
 
 use crate::audits::{PAIRS, expect_report};
 use hlc_log_audit::Outcome;
+use hlc_log_text::FaultRule;
 use std::alloc::Global;
 use std::process::Abort;
 
@@ -12,18 +13,21 @@ static BAD_LOGS: [(&str, &str); 45] = [
     ("local,a,1,1\n", "bad,1,fields\n"),
     ("local,a,1,1,0,label,more\n", "bad,1,fields\n"),
     ("send,a,1,1,0\n", "bad,1,fields\n"),
-    ("local,a,0,1,0\n", "bad,1,number\n"),
-    ("local,a,9223372036854775808,1,0\n", "bad,1,number\n"),
-    ("local,a,1,1,4294967296\n", "bad,1,number\n"),
-    ("local,,x,1,0\n", "bad,1,number\n"),
-    ("local,,1,1,0\n", "bad,1,name\n"),
-    ("send,a,1,1,0,\n", "bad,1,name\n"),
+    ("local,a,0,1,0\n", "bad,1,number,reading\n"),
+    (
+        "local,a,9223372036854775808,1,0\n",
+        "bad,1,number,reading\n",
+    ),
+    ("local,a,1,1,4294967296\n", "bad,1,number,c\n"),
+    ("local,,x,1,0\n", "bad,1,number,reading\n"),
+    ("local,,1,1,0\n", "bad,1,name,node\n"),
+    ("send,a,1,1,0,\n", "bad,1,name,message\n"),
     // A restart has the fields of a local event, and room above its stamp; what it read has to be a reading nevertheless.
     ("restart,a,1,1\n", "bad,1,fields\n"),
     ("restart,a,1,1,0,label,more\n", "bad,1,fields\n"),
-    ("restart,a,0,1,0\n", "bad,1,number\n"),
-    ("restart,a,,1,2147483648\n", "bad,1,number\n"),
-    ("restart,,,1,0\n", "bad,1,name\n"),
+    ("restart,a,0,1,0\n", "bad,1,number,reading\n"),
+    ("restart,a,,1,2147483648\n", "bad,1,number,c\n"),
+    ("restart,,,1,0\n", "bad,1,name,node\n"),
     ("Restart,a,,1,0\n", "bad,1,word\n"),
     // A header that lacks a column, one of a stamp in another form, and one that isn't the first record.
     ("kind,reading,l,c\n", "bad,1,header\n"),
@@ -38,12 +42,15 @@ static BAD_LOGS: [(&str, &str); 45] = [
         "kind,label,node,reading,l,c\nlocal,a,1,1,0\n",
         "bad,2,fields\n",
     ),
-    ("kind,node,reading,l,c\nsend,a,1,1,0\n", "bad,2,name\n"),
+    (
+        "kind,node,reading,l,c\nsend,a,1,1,0\n",
+        "bad,2,name,message\n",
+    ),
     // What a message carried, badly written: half of it is told, or none though the message isn't sent, or it is no stamp, or is one of an
     // event that lacks its reading, or its name.
     (
         "kind,node,reading,l,c,message,carried_l,carried_c\nreceive,a,1,1,0,m,,0\n",
-        "bad,2,number\n",
+        "bad,2,number,carried_l\n",
     ),
     (
         "kind,node,reading,l,c,message,carried_l,carried_c\nreceive,a,1,1,0,m,,\n",
@@ -51,37 +58,40 @@ static BAD_LOGS: [(&str, &str); 45] = [
     ),
     (
         "kind,node,reading,l,c,message,carried_l,carried_c\nreceive,,1,1,0,m,1,x\n",
-        "bad,2,number\n",
+        "bad,2,number,carried_c\n",
     ),
     (
         "kind,node,reading,l,c,message,carried_l,carried_c\nreceive,a,0,1,0,m,1,0\n",
-        "bad,2,number\n",
+        "bad,2,number,reading\n",
     ),
     (
         "kind,node,reading,l,c,message,carried_l,carried_c\nreceive,a,1,1,0,,1,0\n",
-        "bad,2,name\n",
+        "bad,2,name,message\n",
     ),
     // Half a stamp of a receive, none of another event, and a receive without a stamp of a message that isn't sent.
-    ("receive,b,5,,0,m\n", "bad,1,number\n"),
-    ("local,a,10,,\n", "bad,1,number\n"),
+    ("receive,b,5,,0,m\n", "bad,1,number,l\n"),
+    ("local,a,10,,\n", "bad,1,number,l\n"),
     ("receive,b,5,,,m\n", "bad,1,unsent\n"),
     // A receive that names the sender, and doesn't tell what its message carried; one that names nothing; and a send without a message, under a
     // header that has no senders.
     (
         "kind,node,reading,l,c,message,carried_l,carried_c,from\nreceive,b,5,10,1,,,,a\n",
-        "bad,2,number\n",
+        "bad,2,number,carried_l\n",
     ),
     (
         "kind,node,reading,l,c,message,carried_l,carried_c,from\nreceive,b,5,10,1,,10,0,\n",
-        "bad,2,name\n",
+        "bad,2,name,message\n",
     ),
     (
         "kind,node,reading,l,c,message,carried_l,carried_c\nsend,a,10,10,0,,,\n",
-        "bad,2,name\n",
+        "bad,2,name,message\n",
     ),
     // After blank lines, and a field over two lines.
     ("\n\nlocal,a,1,1,0\n\nlocal,a\n", "bad,5,fields\n"),
-    ("local,\"a\nb\",1,1,0\nlocal,c,0,1,0\n", "bad,3,number\n"),
+    (
+        "local,\"a\nb\",1,1,0\nlocal,c,0,1,0\n",
+        "bad,3,number,reading\n",
+    ),
     // A quotation mark that nothing closes, in the middle of a log and in its last record.
     (
         "send,a,1,1,0,m\nlocal,a,2,2,0,\"x\nreceive,b,3,3,0,n\nfrob\n",
@@ -119,6 +129,39 @@ fn bad_logs_have_one_row(rt: HostRuntime) {
     }
 }
 
+// Logs with bad records, and what is told of them once these are left out.
+static LENIENT: [(&str, &str, Outcome); 4] = [
+    // One for each word, and a second one for some; a line in a question, and a name in one.
+    (
+        "frob\nlocal,a,10,10,0\nlocal,a,x,1,0\nlocal,a\n\nsend,a,11,11,0,\nlocal,,1,1,0\nexplain,x\nlocal,a,12,12,0\nfrob,b\ndrift,\n",
+        "count,least,2\nnode,a,2,0,2,2\nmessages,0,0,0,0\n\
+        left-out,word,2,1\nleft-out,fields,1,4\nleft-out,number,2,3\nleft-out,name,3,6\n",
+        Outcome::Sound,
+    ),
+    // A send that is bad sends nothing.
+    (
+        "send,a,10,10,x,m\nreceive,b,5,10,1,m\n",
+        "bad,2,unsent\n",
+        Outcome::BadLog,
+    ),
+    // A header that lacks a column, and a quotation mark that nothing closes, leave nothing to read.
+    ("kind,node\nfrob\n", "bad,1,header\n", Outcome::BadLog),
+    (
+        "frob\nlocal,a,1,1,0,\"x\nlocal,a,2,2,0\n",
+        "bad,2,quote\n",
+        Outcome::BadLog,
+    ),
+];
+
+#[test]
+fn bad_records_may_be_left_out(rt: HostRuntime) {
+    let mut rules = PAIRS;
+    rules.records.faults = FaultRule::LeaveOut;
+    for (log, rows, outcome) in &LENIENT {
+        expect_report(&rt, rt.alloc(), log.as_bytes(), rules, rows, *outcome);
+    }
+}
+
 // A name of 256 bytes is one, and a name of 257 bytes isn't.
 #[test]
 fn names_have_256_bytes_at_most(rt: HostRuntime) {
@@ -133,19 +176,23 @@ fn names_have_256_bytes_at_most(rt: HostRuntime) {
     ] {
         log.extend_from_slice(part).expect(&rt, "memory");
     }
-    expect_bad(&rt, rt.alloc(), &log, "bad,2,name\n");
+    expect_bad(&rt, rt.alloc(), &log, "bad,2,name,node\n");
 }
 
-// Nodes have the letters from A on as names; after 64 of them a known one may come, but no new one.
+// Nodes have five digits as names; after 65,535 of them a known one may come, but no new one.
 #[test]
-fn nodes_are_64_at_most(rt: HostRuntime) {
-    let mut record = *b"local,A,1,1,0\n";
+fn nodes_are_65_535_at_most(rt: HostRuntime) {
+    let mut record = *b"local,00000,1,1,0\n";
     let mut log = Vec::new(rt.alloc());
-    for node in 0..64 {
-        record[6] = 65 + node;
+    for node in 0..65_535 {
+        let mut rest: u32 = node;
+        for place in 6..11 {
+            record[place] = b'0' + (rest % 10) as u8;
+            rest /= 10;
+        }
         log.extend_from_slice(&record).expect(&rt, "memory");
     }
-    log.extend_from_slice(b"local,A,2,2,0\nlocal,new,1,1,0\n")
+    log.extend_from_slice(b"local,00000,2,2,0\nlocal,new,1,1,0\n")
         .expect(&rt, "memory");
-    expect_bad(&rt, rt.alloc(), &log, "bad,66,node\n");
+    expect_bad(&rt, rt.alloc(), &log, "bad,65537,node\n");
 }

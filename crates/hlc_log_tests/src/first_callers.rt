@@ -11,7 +11,7 @@ use hlc_log_examples::{
     audit_log, count_events, first_cause, messages_of, order_message, stamp_of_field,
 };
 use hlc_log_report::MessageCounts;
-use hlc_log_text::{LogRules, RecordSyntax, StampForm};
+use hlc_log_text::{FaultRule, LogRules, RecordSyntax, StampForm};
 use hlc_stamp::{EventId, NodeId, Stamp};
 use std::alloc::Global;
 use std::process::Abort;
@@ -111,6 +111,8 @@ fn a_log_in_memory_is_audited(rt: HostRuntime) {
             tolerance: 0,
             receives: Receives::Tick,
             unsent_local: false,
+            resent: None,
+            faults: FaultRule::First,
         },
         limit: None,
         report: false,

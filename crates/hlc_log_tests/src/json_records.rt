@@ -25,8 +25,11 @@ static BAD_RECORDS: [(&[u8], BadLog); 13] = [
         BadLog::Missing(LogColumn::CarriedC),
     ),
     // What is there, but no number, and what isn't such a record.
-    (b"local,a,-,5,0,,,,,,,", BadLog::Number),
-    (b"receive,a,5,5,0,,m,,,,0,", BadLog::Number),
+    (b"local,a,-,5,0,,,,,,,", BadLog::Number(LogColumn::Reading)),
+    (
+        b"receive,a,5,5,0,,m,,,,0,",
+        BadLog::Number(LogColumn::CarriedL),
+    ),
     (b"local,a,5,5,0,", BadLog::Fields),
     (b"skipped,", BadLog::Fields),
     (b"kind,node,reading,l,c", BadLog::Word),

@@ -4,7 +4,8 @@ ghost use Rattle.std.specs.Prelude.{◌≤◌};
 ghost use Rattle.hlc_stamp.specs.declared.limits.TheConstants.{MAX_CAPACITY};
 
 use hlc_log_text::{
-    BadLine, BadLog, LogQuestion, LogRules, LogText, LogTextFault, StampForm, question_of, read_log,
+    BadLine, BadLog, LogColumn, LogQuestion, LogRules, LogText, LogTextFault, StampForm,
+    question_of, read_log,
 };
 use hlc_stamp::EventId;
 use std::alloc::{AllocError, Global};
@@ -47,11 +48,11 @@ static BAD_TEXTS: [(&[u8], u32, BadLog); 30] = [
     (b"relation,1\n", 1, BadLog::Fields),
     (b"influenced,1,2\n", 1, BadLog::Fields),
     (b"drift,,\n", 1, BadLog::Fields),
-    (b"\nclaimed,\n", 2, BadLog::Number),
-    (b"event,18446744073709551616\n", 1, BadLog::Number),
-    (b"check,1,2,-1\n", 1, BadLog::Number),
-    (b"relation,1,b\n", 1, BadLog::Number),
-    (b"drift,\n", 1, BadLog::Name),
+    (b"\nclaimed,\n", 2, BadLog::Line),
+    (b"event,18446744073709551616\n", 1, BadLog::Line),
+    (b"check,1,2,-1\n", 1, BadLog::Line),
+    (b"relation,1,b\n", 1, BadLog::Line),
+    (b"drift,\n", 1, BadLog::Name(LogColumn::Node)),
     // A quotation mark that nothing closes: in a label, in the last record, after a doubled one, in a name, and in a question.
     (
         b"local,a,1,1,0\n\nlocal,a,2,2,0,\"half a label\nlocal,a,3,3,0\nevent,1\n",

@@ -3,7 +3,7 @@
 use crate::audits::{BROKEN, PAIRS, expect_audited, expect_report};
 use hlc_causality::Receives;
 use hlc_log_audit::{AuditRules, Outcome, audit_run};
-use hlc_log_text::{Line, LogQuestion, LogRules, RecordSyntax, StampForm};
+use hlc_log_text::{FaultRule, Line, LogQuestion, LogRules, RecordSyntax, StampForm};
 use std::alloc::Global;
 use std::process::Abort;
 
@@ -108,6 +108,8 @@ const REPORTED: AuditRules = AuditRules {
         tolerance: 0,
         receives: Receives::Tick,
         unsent_local: false,
+        resent: None,
+        faults: FaultRule::First,
     },
     limit: None,
     report: true,

@@ -1,6 +1,6 @@
 -- Texts of logs whose messages were told apart.
-use Rattle.std.proofs.Common.{◌≡◌, ◌∙◌, ℕ, ◌*◌, ◌<◌, ◌≤◌, zero, suc, List, [], ◌∷◌, Option, Some, None, Ok, Err, Result, ap, arith, get_or, length, map, refl, subst, sym}
-use Rattle.std.specs.Prelude.{All, AllPairs, IfOk}
+use Rattle.std.proofs.Common.{◌≡◌, ◌∙◌, ℕ, ◌*◌, ◌<◌, ◌≤◌, zero, suc, List, [], ◌∷◌, Option, Some, None, ap, arith, get_or, length, map, refl, subst, sym}
+use Rattle.std.specs.Prelude.{All, AllPairs}
 use Rattle.std.specs.List.{range_with_len}
 use Rattle.std.proofs.lemmas.List.{ext_get_or, get_or-map, length-map}
 use Rattle.std.proofs.lemmas.List.FromFn.{get_or-map-range_with_len, length-range_with_len}
@@ -111,6 +111,7 @@ module _ (items : List LogItem) (lines : List ℕ) (partial : PartialLog) (h : I
     };
     questions = h.held.questions;
     skipped = h.held.skipped;
+    left_out = h.held.left_out;
   }
 
 on_lines_same : (bytes : Option (List ℕ)) (items : List LogItem) (these others : List LogEvent)
@@ -133,6 +134,7 @@ is_whole rules most bytes partial h = record {
       (lines_apart_if (length partial.messages) (nodes_named partial.nodes partial.senders (length partial.log.events)) partial.log.events (unnamed_in partial.messages))
       h.on_lines;
   skipped = h.skipped;
+  left_out = h.left_out;
 }
 
 pub is_text_read : (rules : LogRules) (most : ℕ) (bytes : Option (List ℕ)) (old new : PartialLog) (nodes : List (List ℕ)) → IsFinished old new nodes
@@ -148,9 +150,9 @@ module _ (old told : PartialLog) (few : HasFewNames old) (is : told ≡ record o
   size : length (apart_log old).events ≡ length old.log.events
   size = length-apart_if messages (nodes_named old.nodes old.senders (length old.log.events)) old.log.events (unnamed_in old.messages)
 
-  is_finished_with : (taken left : List (List ℕ)) → taken ≡ told.nodes → left ≡ [] → (names : List (List ℕ)) → names ≡ taken
+  pub is_finished : (taken left : List (List ℕ)) → taken ≡ told.nodes → left ≡ [] → (names : List (List ℕ)) → names ≡ taken
       → IsFinished old (record told { nodes = left }) names
-  is_finished_with taken left take none names same =
+  is_finished taken left take none names same =
       let empty = ap length none in
       let few_messages = few.few_messages in
       let counted = size in
@@ -161,8 +163,3 @@ module _ (old told : PartialLog) (few : HasFewNames old) (is : told ≡ record o
             ∙ ap (λ (count : ℕ). record (apart_text old) { messages = apart_count (unnamed_in old.messages) messages count }) size;
         few = record { few_nodes = omega (arith, empty); few_messages = omega (arith, counted, few_messages, mentioned, happened) };
       }
-
-  pub is_finished : {E : Type 0} (taken left : List (List ℕ)) → taken ≡ told.nodes → left ≡ [] → (names : Result (List (List ℕ)) E)
-      → IfOk names (λ names. names ≡ taken) → IfOk names (IsFinished old (record told { nodes = left }))
-  is_finished taken left take none (Ok names) same = is_finished_with taken left take none names same
-  is_finished taken left take none (Err fault) same = tt

@@ -1,3 +1,4 @@
+pub mod LeftOut
 pub mod LogFacts
 pub mod NameFacts
 pub mod NamedLogs

@@ -2,19 +2,21 @@
 use Rattle.std.proofs.Common.{◌≡◌, ◌∙◌, ℕ, zero, suc, ◌+◌, ◌<◌, ◌≤◌, All, AllPairs, Bool, true, false, List, [], ◌∷◌, ◌++◌, Option, Some, None, ap, arith, cond, filter, length, length-append, map, refl, sym, subst}
 use Rattle.std.specs.Prelude.{◌==◌, slice_get}
 use Rattle.std.specs.Option.{option_and_then}
-use Rattle.std.specs.List.{filter_map}
+use Rattle.std.specs.List.{cons_option, filter_map}
 use Rattle.std.proofs.lemmas.List.{append-nil, length-map, map_push}
 use Rattle.std.proofs.lemmas.List.Elements.{All-head, All-push, All-tail, All-weaker, filter_map-append}
 use Rattle.std.proofs.lemmas.List.Quantifiers.{all_pairs_push}
 use Rattle.hlc_log.specs.declared.log_event.LogEvent.{LogEvent}
 use Rattle.hlc_log.specs.declared.log_event.LogKind.{LogKind}
 use Rattle.hlc_log.specs.declared.log_event.LogKind.TheVariants.{Local, Outside, Receive, Restart, Send}
-use Rattle.hlc_stamp.specs.declared.limits.TheConstants.{MAX_NODES}
+use Rattle.hlc_log.specs.declared.log_event.TheConstants.{MAX_LOG_NODES}
 use Rattle.hlc_log.specs.Events.{IsMessageBelow, IsNumbered}
 use Rattle.hlc_log_text.specs.Names.{first_mentions, with_name}
+use Rattle.hlc_log_text.specs.declared.bad_log.BadLine.{BadLine}
+use Rattle.hlc_log_text.specs.declared.bad_log.BadLog.{BadLog}
 use Rattle.hlc_log_text.specs.declared.columns.Columns.{Columns}
 use Rattle.hlc_log_text.specs.Labels.{GivesLabel, label_at}
-use Rattle.hlc_log_text.specs.LogItem.{Asks, LogItem, Names, Skips, Tells, event_lines, events_in, header_columns, if_asked, if_event, is_telling, lines_where, questions_in}
+use Rattle.hlc_log_text.specs.LogItem.{Asks, Fails, LogItem, Names, Skips, Tells, bad_line, bad_lines_in, event_lines, events_in, header_columns, if_asked, if_event, if_reason, is_telling, lines_where, questions_in, reasons_in}
 use Rattle.hlc_log_text.specs.LogText.{IsRawLogOf, IsNamed, IsRawTextOf, kind_message, message_names, node_names, record_count, sender_of_event, with_names}
 use Rattle.hlc_log_text.specs.PartialLog.{IsNextLine, IsPartialLog, last_of, text_of, with_message}
 use Rattle.hlc_log_text.specs.NamedEvent.{NamedEvent, without_asides}
@@ -161,14 +163,17 @@ header_columns-more (Tells e ∷ items) item none = refl
 header_columns-more (Asks a ∷ items) item none = refl
 header_columns-more (Names c ∷ items) item none = refl
 header_columns-more (Skips ∷ items) item none = refl
+header_columns-more (Fails why ∷ items) item none = refl
 
--- no record tells of more than one event, asks more than one question or says more than once that it was left out, or does two of these
-pub length-items : (items : List LogItem) → length (events_in items) + length (questions_in items) + skip_count items ≤ length items
+-- no record tells of more than one event, asks more than one question, says more than once that it was left out or is left out more than once, or does
+-- two of these
+pub length-items : (items : List LogItem) → length (events_in items) + length (questions_in items) + skip_count items + length (reasons_in items) ≤ length items
 length-items [] = omega arith
 length-items (Tells event ∷ items) = let rest = length-items items in omega arith
 length-items (Asks asked ∷ items) = let rest = length-items items in omega arith
 length-items (Names columns ∷ items) = let rest = length-items items in omega arith
 length-items (Skips ∷ items) = let rest = length-items items in omega arith
+length-items (Fails why ∷ items) = let rest = length-items items in omega arith
 
 pub length-log : (events : List NamedEvent) (text : LogText) → IsRawLogOf events text → length text.log.events ≡ length events
 length-log events text h =
@@ -179,8 +184,40 @@ record_count-items items text h =
     let events = length-log (events_in items) text h.log in
     let questions : length text.questions.items ≡ length (questions_in items) = sym (length-map text.questions.items plain_asked) ∙ ap length h.questions in
     let skipped = h.skipped in
+    let left_out : length text.left_out.items ≡ length (reasons_in items) =
+    sym (length-map text.left_out.items (λ (b : BadLine). b.why)) ∙ ap length h.left_out in
     let all = length-items items in
     omega arith
+
+-- one more record that is left out, or isn't
+cons_option-append : (o : Option BadLine) (xs ys : List BadLine) → cons_option o (xs ++ ys) ≡ cons_option o xs ++ ys
+cons_option-append None xs ys = refl
+cons_option-append (Some b) xs ys = refl
+
+bad_lines-more : (items : List LogItem) (lines : List ℕ) (item : LogItem) (line : ℕ) → length lines ≡ length items
+    → bad_lines_in (items ++ item ∷ []) (lines ++ line ∷ []) ≡ bad_lines_in items lines ++ cons_option (bad_line line (if_reason item)) []
+bad_lines-more [] [] item line each = refl
+bad_lines-more [] (l ∷ lines) item line each = absurd (omega (arith, each))
+bad_lines-more (i ∷ items) [] item line each = absurd (omega (arith, each))
+bad_lines-more (i ∷ items) (l ∷ lines) item line each =
+    ap (cons_option (bad_line l (if_reason i))) (bad_lines-more items lines item line (omega (arith, each)))
+    ∙ cons_option-append (bad_line l (if_reason i)) (bad_lines_in items lines) (cons_option (bad_line line (if_reason item)) [])
+
+bad_lines-same : (items : List LogItem) (lines : List ℕ) (item : LogItem) (line : ℕ) → if_reason item ≡ None → length lines ≡ length items
+    → bad_lines_in (items ++ item ∷ []) (lines ++ line ∷ []) ≡ bad_lines_in items lines
+bad_lines-same items lines item line other each =
+    bad_lines-more items lines item line each
+    ∙ ap (λ (why : Option BadLog). bad_lines_in items lines ++ cons_option (bad_line line why) []) other ∙ append-nil (bad_lines_in items lines)
+
+-- why they are bad
+reasons_of : (items : List LogItem) (lines : List ℕ) → length lines ≡ length items → map (λ (b : BadLine). b.why) (bad_lines_in items lines) ≡ reasons_in items
+reasons_of [] lines each = refl
+reasons_of (item ∷ items) [] each = absurd (omega (arith, each))
+reasons_of (item ∷ items) (line ∷ lines) each = by (if_reason item) (reasons_of items lines (omega (arith, each))) where
+  by : (why : Option BadLog) → map (λ (b : BadLine). b.why) (bad_lines_in items lines) ≡ reasons_in items
+      → map (λ (b : BadLine). b.why) (cons_option (bad_line line why) (bad_lines_in items lines)) ≡ cons_option why (reasons_in items)
+  by None rest = rest
+  by (Some why) rest = ap (λ (reasons : List BadLog). why ∷ reasons) rest
 
 -- what is kept aside of one more event
 module _ (f : NamedEvent → Option (List ℕ)) where
@@ -219,11 +256,12 @@ pub record Continues (old new : PartialLog) (r : NamedEvent) (e : LogEvent) : Ty
   pub questions : new.questions ≡ old.questions
   pub told : with_names new.nodes new.messages e ≡ without_asides r
   pub named : IsNamed new.nodes new.messages e
-  pub few_nodes : length new.nodes ≤ MAX_NODES
+  pub few_nodes : length new.nodes ≤ MAX_LOG_NODES
   pub line : new.line ≡ e.line
   pub next : IsNextLine old e.line
   pub columns : new.columns ≡ old.columns
   pub skipped : new.skipped ≡ old.skipped
+  pub left_out : new.left_out ≡ old.left_out
 
 module _ (items : List LogItem) (lines : List ℕ) (old new : PartialLog) (r : NamedEvent) (e : LogEvent) (h : IsPartialLog items lines old) (n : Continues old new r e) where
   abbrev events : List NamedEvent
@@ -299,6 +337,9 @@ module _ (items : List LogItem) (lines : List ℕ) (old new : PartialLog) (r : N
   skipped_told : new.skipped ≡ skipped_in (items ++ Tells r ∷ []) (lines ++ e.line ∷ [])
   skipped_told = n.skipped ∙ h.skipped ∙ ap skipped_on (sym (lines_where-same is_skip items lines (Tells r) e.line refl h.one_each))
 
+  left_out_told : new.left_out.items ≡ bad_lines_in (items ++ Tells r ∷ []) (lines ++ e.line ∷ [])
+  left_out_told = rw n.left_out (h.left_out ∙ sym (bad_lines-same items lines (Tells r) e.line refl h.one_each))
+
   pub is_reading-more : IsPartialLog (items ++ Tells r ∷ []) (lines ++ e.line ∷ []) new
   is_reading-more =
       let line = n.line in
@@ -313,6 +354,7 @@ module _ (items : List LogItem) (lines : List ℕ) (old new : PartialLog) (r : N
           log = subst (λ (events : List NamedEvent). IsRawLogOf events (text_of new)) (sym (events_in-tells items r)) log-more;
           questions = rw n.questions (h.held.questions ∙ sym (questions_in-tells items r));
           skipped = ap skipped_count skipped_told ∙ count_in (items ++ Tells r ∷ []) (lines ++ e.line ∷ []) each;
+          left_out = ap (map (λ (b : BadLine). b.why)) left_out_told ∙ reasons_of (items ++ Tells r ∷ []) (lines ++ e.line ∷ []) each;
         };
         messages = messages_now ∙ ap message_names (sym (events_in-tells items r));
         on_lines = lines_told;
@@ -328,9 +370,10 @@ module _ (items : List LogItem) (lines : List ℕ) (old new : PartialLog) (r : N
             (subst (λ (place : ℕ). GivesLabel old.senders new.senders place r.from) (length-log events (text_of old) log) n.senders) place
             ∙ ap (λ (events : List NamedEvent). sender_of_event events place) (sym (events_in-tells items r));
         skipped = skipped_told;
+        left_out = left_out_told;
       }
 
--- one more record that tells of no event and names no columns, with what it asks or that it was left out, and nothing else
+-- one more record that tells of no event and names no columns, with what it asks or that it was or is left out, and nothing else
 pub record AddsAside (items : List LogItem) (lines : List ℕ) (old new : PartialLog) (item : LogItem) : Type 0 where
   pub log : new.log ≡ old.log
   pub nodes : new.nodes ≡ old.nodes
@@ -341,6 +384,7 @@ pub record AddsAside (items : List LogItem) (lines : List ℕ) (old new : Partia
   pub next : IsNextLine old new.line
   pub columns : new.columns ≡ old.columns
   pub skipped : new.skipped ≡ skipped_in (items ++ item ∷ []) (lines ++ new.line ∷ [])
+  pub left_out : new.left_out.items ≡ bad_lines_in (items ++ item ∷ []) (lines ++ new.line ∷ [])
   pub no_event : events_in (item ∷ []) ≡ []
   pub no_columns : header_columns (item ∷ []) ≡ None
   pub tells_nothing : is_telling item ≡ false
@@ -355,6 +399,7 @@ module _ (items : List LogItem) (lines : List ℕ) (old new : PartialLog) (item 
     labels = old.labels;
     questions = new.questions;
     skipped = new.skipped;
+    left_out = new.left_out;
   }
 
   is_other : text_of new ≡ other
@@ -366,6 +411,7 @@ module _ (items : List LogItem) (lines : List ℕ) (old new : PartialLog) (item 
         labels = n.labels i;
         questions = new.questions;
         skipped = new.skipped;
+        left_out = new.left_out;
       }
 
   log-other : IsRawLogOf (events_in items) other
@@ -406,6 +452,7 @@ module _ (items : List LogItem) (lines : List ℕ) (old new : PartialLog) (item 
               (subst (λ (events : List NamedEvent). IsRawLogOf events other) (sym same_events) log-other);
           questions = n.questions;
           skipped = ap skipped_count n.skipped ∙ count_in (items ++ item ∷ []) (lines ++ new.line ∷ []) each;
+          left_out = ap (map (λ (b : BadLine). b.why)) n.left_out ∙ reasons_of (items ++ item ∷ []) (lines ++ new.line ∷ []) each;
         };
         messages = n.messages ∙ h.messages ∙ ap message_names (sym same_events);
         on_lines = subst (λ (text : LogText). map (λ e. e.line) text.log.events ≡ event_lines (items ++ item ∷ []) (lines ++ new.line ∷ [])) (sym is_other) lines_kept;
@@ -419,6 +466,7 @@ module _ (items : List LogItem) (lines : List ℕ) (old new : PartialLog) (item 
             ap (λ senders. label_at senders place) n.senders ∙ h.senders place
             ∙ ap (λ (events : List NamedEvent). sender_of_event events place) (sym same_events);
         skipped = n.skipped;
+        left_out = n.left_out;
       }
 
 -- one more question
@@ -431,6 +479,9 @@ module _ (items : List LogItem) (lines : List ℕ) (old new : PartialLog) (quest
 
   pub skipped_kept : (line : ℕ) → old.skipped ≡ skipped_in (items ++ Asks (plain_asked question) ∷ []) (lines ++ line ∷ [])
   skipped_kept line = h.skipped ∙ ap skipped_on (sym (lines_where-same is_skip items lines (Asks (plain_asked question)) line refl h.one_each))
+
+  pub left_out_kept : (line : ℕ) → old.left_out.items ≡ bad_lines_in (items ++ Asks (plain_asked question) ∷ []) (lines ++ line ∷ [])
+  left_out_kept line = h.left_out ∙ sym (bad_lines-same items lines (Asks (plain_asked question)) line refl h.one_each)
 
 -- one more record that was left out
 module _ (items : List LogItem) (lines : List ℕ) (old : PartialLog) (line : ℕ) (h : IsPartialLog items lines old) (next : IsNextLine old line) where
@@ -456,10 +507,24 @@ module _ (items : List LogItem) (lines : List ℕ) (old : PartialLog) (line : �
     next = next;
     columns = refl;
     skipped = skipped_all;
+    left_out = h.left_out ∙ sym (bad_lines-same items lines Skips line refl h.one_each);
     no_event = refl;
     no_columns = refl;
     tells_nothing = refl;
   }
+
+-- one more record that is bad, and left out
+module _ (items : List LogItem) (lines : List ℕ) (old : PartialLog) (b : BadLine) (h : IsPartialLog items lines old) where
+  pub failed_questions : map plain_asked old.questions.items ≡ questions_in (items ++ Fails b.why ∷ [])
+  failed_questions = h.held.questions ∙ sym (filter_map-append if_asked items (Fails b.why ∷ []) ∙ append-nil (questions_in items))
+
+  pub failed_skipped : old.skipped ≡ skipped_in (items ++ Fails b.why ∷ []) (lines ++ b.line ∷ [])
+  failed_skipped = h.skipped ∙ ap skipped_on (sym (lines_where-same is_skip items lines (Fails b.why) b.line refl h.one_each))
+
+  pub failed_left_out : (left_out : List BadLine) → left_out ≡ old.left_out.items ++ b ∷ []
+      → left_out ≡ bad_lines_in (items ++ Fails b.why ∷ []) (lines ++ b.line ∷ [])
+  failed_left_out left_out pushed =
+      pushed ∙ ap (λ (bs : List BadLine). bs ++ b ∷ []) h.left_out ∙ sym (bad_lines-more items lines (Fails b.why) b.line h.one_each)
 
 -- a header, and nothing else
 module _ (lines : List ℕ) (old : PartialLog) (columns : Columns) (line : ℕ) (h : IsPartialLog [] lines old) (next : IsNextLine old line) where
@@ -475,6 +540,11 @@ module _ (lines : List ℕ) (old : PartialLog) (columns : Columns) (line : ℕ) 
   headed_skipped [] none skipped = skipped
   headed_skipped (l ∷ lines) none skipped = absurd (omega (arith, none))
 
+  headed_left_out : (lines : List ℕ) → length lines ≡ 0 → old.left_out.items ≡ bad_lines_in [] lines
+      → old.left_out.items ≡ bad_lines_in (Names columns ∷ []) (lines ++ line ∷ [])
+  headed_left_out [] none left_out = left_out
+  headed_left_out (l ∷ lines) none left_out = absurd (omega (arith, none))
+
   pub is_headed : IsPartialLog (Names columns ∷ []) (lines ++ line ∷ []) headed
   is_headed =
       let rises = next.rises in
@@ -482,7 +552,7 @@ module _ (lines : List ℕ) (old : PartialLog) (columns : Columns) (line : ℕ) 
       let before = h.last in
       let none = h.one_each in
       record {
-        held = record { log = h.held.log; questions = h.held.questions; skipped = h.held.skipped };
+        held = record { log = h.held.log; questions = h.held.questions; skipped = h.held.skipped; left_out = h.held.left_out };
         messages = h.messages;
         on_lines = headed_lines lines h.one_each h.on_lines;
         one_each = length-append lines (line ∷ []) ∙ ap (λ n. n + 1) none;
@@ -493,10 +563,11 @@ module _ (lines : List ℕ) (old : PartialLog) (columns : Columns) (line : ℕ) 
         last = omega arith;
         senders = h.senders;
         skipped = headed_skipped lines h.one_each h.skipped;
+        left_out = headed_left_out lines h.one_each h.left_out;
       }
 
 -- named events are numbered
-pub numbered_of : (nodes messages : List (List ℕ)) (log_events : List LogEvent) → length nodes ≤ MAX_NODES
+pub numbered_of : (nodes messages : List (List ℕ)) (log_events : List LogEvent) → length nodes ≤ MAX_LOG_NODES
     → All (IsNamed nodes messages) log_events → All (IsNumbered (length messages)) log_events
 numbered_of nodes messages log_events few named =
     All-weaker (IsNamed nodes messages) (IsNumbered (length messages))

@@ -1,18 +1,20 @@
 -- Logs without a header.
-use Rattle.std.proofs.Common.{◌≡◌, ◌∙◌, ℕ, Bool, true, false, List, [], ◌∷◌, ◌++◌, Option, Some, None, Ok, Err, Result, ap, cond, map, refl, subst, sym}
+use Rattle.std.proofs.Common.{◌≡◌, ◌∙◌, ℕ, Bool, true, false, List, [], ◌∷◌, ◌++◌, Option, Some, None, Ok, Err, Result, ap, cond, inl, inr, map, refl, subst, sym}
 use Rattle.std.specs.Prelude.{◌==◌, bytes_eq, codes, length}
 use Rattle.std.specs.Cmp.Lexicographic.{bytes_decides}
 use Rattle.hlc_csv.specs.Rows.{Fields, field_of}
 use Rattle.hlc_log_text.specs.Columns.{begins_as_header, columns_by, columns_of}
-use Rattle.hlc_log_text.specs.LogItem.{Asks, LogItem, Names, Skips, Tells, asks, begins_as_skip, columns_after, header_columns, header_item, is_header, item_after, item_after_word, item_in, item_of, other_item, skip_item, tells, unless_missing}
+use Rattle.hlc_log_text.specs.LogItem.{Asks, Fails, LogItem, Names, Skips, Tells, asks, begins_as_skip, columns_after, header_columns, header_item, is_header, item_after, item_after_word, item_in, item_of, other_item, skip_item, tells, unless_missing}
 use Rattle.hlc_log_text.specs.LogWord.{log_word_of}
 use Rattle.hlc_log_text.specs.Missing.{missing_by}
 use Rattle.hlc_log_text.specs.NamedEvent.{NamedEvent, named_event_of}
+use Rattle.hlc_log_text.specs.PartialLog.{SaysAfter}
 use Rattle.hlc_log_text.specs.Question.{Asked, asked_after_word, asked_of, question_word_of}
 use Rattle.hlc_log_text.specs.ReadLog.{SayAfter}
 use Rattle.hlc_log_text.specs.declared.bad_log.BadLog.{BadLog}
 use Rattle.hlc_log_text.specs.declared.bad_log.BadLog.TheVariants as bad
 use Rattle.hlc_log_text.specs.declared.columns.Columns.{Columns}
+use Rattle.hlc_log_text.specs.declared.fault_rule.FaultRule.TheVariants.{First}
 use Rattle.hlc_log_text.specs.declared.log_word.LogWord.{LogWord}
 use Rattle.hlc_log_text.specs.declared.question_word.QuestionWord.{QuestionWord}
 use Rattle.hlc_log_text.specs.declared.log_rules.LogRules.{LogRules}
@@ -81,6 +83,7 @@ none_after rules before fields item none is = ap (columns_by rules.syntax) (head
   no_columns (Tells event) is = refl
   no_columns (Asks asked) is = refl
   no_columns Skips is = refl
+  no_columns (Fails why) is = refl
   no_columns (Names columns) is = absurd (placed_names rules (log_word_of (field_of fields 0)) fields columns is)
 
 -- records that say things by the places of their fields say them as records of a log without a header
@@ -91,22 +94,26 @@ placed_say rules before [] (item ∷ items) none same = absurd (cc)
 placed_say rules before (fields ∷ records) [] none same = absurd (cc)
 placed_say rules before (fields ∷ records) (item ∷ items) none same =
     let here : item_of rules fields ≡ Ok item = cc in (
-      placed_after rules before fields item none here,
+      inl (placed_after rules before fields item none here),
       placed_say rules (before ++ item ∷ []) records items (none_after rules before fields item none here) (cc),
     )
 
--- what records say is one list
-pub said_once : (rules : LogRules) (before : List LogItem) (records : List Fields) (items others : List LogItem) → SayAfter rules before records items
-    → SayAfter rules before records others → items ≡ others
-said_once rules before [] [] [] say also = refl
-said_once rules before [] [] (o ∷ others) say also = absurd also
-said_once rules before [] (item ∷ items) others say also = absurd say
-said_once rules before (fields ∷ records) [] others say also = absurd say
-said_once rules before (fields ∷ records) (item ∷ items) [] say also = absurd also
-said_once rules before (fields ∷ records) (item ∷ items) (o ∷ others) say also =
-    let said = say.0 in
-    let said_also = also.0 in
-    let first : item ≡ o = cc in
-    let rest = said_once rules (before ++ item ∷ []) records items others say.1
-    (subst (λ (x : LogItem). SayAfter rules (before ++ x ∷ []) records others) (sym first) also.1) in
-    λ i. first i ∷ rest i
+-- where no record is left out, what records say is one list
+one_said : (rules : LogRules) (before : List LogItem) (fields : Fields) (item o : LogItem) → rules.faults ≡ First → SaysAfter rules before fields item
+    → SaysAfter rules before fields o → item ≡ o
+one_said rules before fields item o first (inr left) also = let left_out = left.1.1 in absurd (cc)
+one_said rules before fields item o first (inl said) (inr left) = let left_out = left.1.1 in absurd (cc)
+one_said rules before fields item o first (inl said) (inl also) = cc
+
+pub said_once : (rules : LogRules) (before : List LogItem) (records : List Fields) (items others : List LogItem) → rules.faults ≡ First
+    → SayAfter rules before records items → SayAfter rules before records others → items ≡ others
+said_once rules before [] [] [] first say also = refl
+said_once rules before [] [] (o ∷ others) first say also = absurd also
+said_once rules before [] (item ∷ items) others first say also = absurd say
+said_once rules before (fields ∷ records) [] others first say also = absurd say
+said_once rules before (fields ∷ records) (item ∷ items) [] first say also = absurd also
+said_once rules before (fields ∷ records) (item ∷ items) (o ∷ others) first say also =
+    let one = one_said rules before fields item o first say.0 also.0 in
+    let rest = said_once rules (before ++ item ∷ []) records items others first say.1
+    (subst (λ (x : LogItem). SayAfter rules (before ++ x ∷ []) records others) (sym one) also.1) in
+    λ i. one i ∷ rest i

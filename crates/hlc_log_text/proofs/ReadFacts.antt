@@ -1,8 +1,9 @@
 -- A log is read, one record after the other.
-use Rattle.std.proofs.Common.{◌≡◌, ◌∙◌, ℕ, ◌+◌, ◌<◌, ◌≤◌, Bool, true, false, List, [], ◌∷◌, ◌++◌, Option, Some, None, Ok, ap, append_assoc, arith, inl, inr, length, length-append, map, refl, suc, sym, subst}
+use Rattle.std.proofs.Common.{◌≡◌, ◌∙◌, ℕ, ◌+◌, ◌<◌, ◌≤◌, Bool, true, false, List, [], ◌∷◌, ◌++◌, Option, Some, None, ap, append_assoc, arith, inl, inr, length, length-append, map, refl, suc, sym, subst}
 use Rattle.std.specs.Prelude.{max, slice_index_or}
 use Rattle.std.proofs.lemmas.List.{append-nil}
-use Rattle.hlc_stamp.specs.declared.limits.TheConstants.{MAX_CAPACITY, MAX_NODES}
+use Rattle.hlc_stamp.specs.declared.limits.TheConstants.{MAX_CAPACITY}
+use Rattle.hlc_log.specs.declared.log_event.TheConstants.{MAX_LOG_NODES}
 use Rattle.hlc_csv.specs.Records.{BeginsWith}
 use Rattle.hlc_csv.specs.Rows.{Fields}
 use Rattle.hlc_csv.proofs.RecordFacts.{are_all-only}
@@ -16,12 +17,12 @@ use Rattle.hlc_log_text.specs.declared.log_rules.LogRules.{LogRules}
 use Rattle.hlc_log_text.specs.declared.bad_log.BadLine.{BadLine}
 use Rattle.hlc_log_text.specs.declared.bad_log.BadLog.{BadLog}
 use Rattle.hlc_log_text.specs.declared.partial_log.PartialLog.{PartialLog}
-use Rattle.hlc_log_text.specs.LogItem.{LogItem, event_lines, events_in, item_after}
+use Rattle.hlc_log_text.specs.LogItem.{LogItem, bad_lines_in, event_lines, events_in}
 use Rattle.hlc_log_text.specs.Skipped.{skipped_in}
 use Rattle.hlc_log_text.specs.declared.skipped.Skipped.{Skipped}
 use Rattle.hlc_log_text.specs.LogText.{IsRawLogOf, node_names}
-use Rattle.hlc_log_text.specs.ReadLog.{AreOnLines, AreSkippedOnLines, HasTooMany, IsBadNext, IsOnLine, IsReadInto, IsReadUpToBad, SayAfter, SayItems}
-use Rattle.hlc_log_text.specs.PartialLog.{HasPlace, IsBadFound, IsPartialLog, Takes, last_of, text_of, told_line}
+use Rattle.hlc_log_text.specs.ReadLog.{AreLeftOutOnLines, AreOnLines, AreSkippedOnLines, HasTooMany, IsBadNext, IsOnLine, IsReadInto, IsReadUpToBad, SayAfter, SayItems}
+use Rattle.hlc_log_text.specs.PartialLog.{HasPlace, IsBadFound, IsPartialLog, SaysAfter, Takes, last_of, text_of, told_line}
 use Rattle.hlc_log_text.proofs.LogFacts.{record_count-items}
 
 -- what was read so far
@@ -49,16 +50,16 @@ length-said rules records items say = length-said_after rules [] records items s
 
 -- one more record says something
 said-push : (rules : LogRules) (before : List LogItem) (records : List Fields) (items : List LogItem) (fields : Fields) (item : LogItem)
-    → SayAfter rules before records items → item_after rules (before ++ items) fields ≡ Ok item
+    → SayAfter rules before records items → SaysAfter rules (before ++ items) fields item
     → SayAfter rules before (records ++ fields ∷ []) (items ++ item ∷ [])
 said-push rules before [] [] fields item say is =
-    (subst (λ (before : List LogItem). item_after rules before fields ≡ Ok item) (append-nil before) is, tt)
+    (subst (λ (before : List LogItem). SaysAfter rules before fields item) (append-nil before) is, tt)
 said-push rules before [] (i ∷ items) fields item say is = absurd say
 said-push rules before (f ∷ records) [] fields item say is = absurd say
 said-push rules before (f ∷ records) (i ∷ items) fields item say is = (
   say.0,
   said-push rules (before ++ i ∷ []) records items fields item say.1
-      (subst (λ (before : List LogItem). item_after rules before fields ≡ Ok item) (sym (append_assoc before (i ∷ []) items)) is),
+      (subst (λ (before : List LogItem). SaysAfter rules before fields item) (sym (append_assoc before (i ∷ []) items)) is),
 )
 
 -- the line that is told of one more record
@@ -95,6 +96,11 @@ are_skipped_on_lines : (bytes : Option (List ℕ)) (items : List LogItem) (count
 are_skipped_on_lines None items counted skipped h is = tt
 are_skipped_on_lines (Some text) items counted skipped h is = is ∙ ap (λ (lines : List ℕ). skipped_in items (rising 0 lines)) (sym h)
 
+are_left_out_on_lines : (bytes : Option (List ℕ)) (items : List LogItem) (counted : List ℕ) (left_out : List BadLine) → BeginOnLines bytes counted
+    → left_out ≡ bad_lines_in items (rising 0 counted) → AreLeftOutOnLines bytes items left_out
+are_left_out_on_lines None items counted left_out h is = tt
+are_left_out_on_lines (Some text) items counted left_out h is = is ∙ ap (λ (lines : List ℕ). bad_lines_in items (rising 0 lines)) (sym h)
+
 -- the records that end open are the first ones
 pub open_begins : (bytes : Option (List ℕ)) (records : List Fields) → EndOpen bytes records → BeginsWith bytes records
 open_begins None records h = tt
@@ -118,8 +124,8 @@ module _ {R : Type 0} (rules : LogRules) (rem : R → Option (List ℕ)) (initia
     log : IsRawLogOf (events_in h.items) (text_of reading)
     log = h.reading.held.log
 
-    few_nodes : length (node_names (events_in h.items)) ≤ MAX_NODES
-    few_nodes = subst (λ (names : List (List ℕ)). length names ≤ MAX_NODES) log.nodes log.few_nodes
+    few_nodes : length (node_names (events_in h.items)) ≤ MAX_LOG_NODES
+    few_nodes = subst (λ (names : List (List ℕ)). length names ≤ MAX_LOG_NODES) log.nodes log.few_nodes
 
     -- one more record has its place
     pub has_place : count < MAX_CAPACITY → HasPlace reading
@@ -153,6 +159,7 @@ module _ {R : Type 0} (rules : LogRules) (rem : R → Option (List ℕ)) (initia
           held = h.reading;
           on_lines = are_on_lines bytes h.items h.counted reading.log.events all.on_lines h.reading.on_lines;
           skipped = are_skipped_on_lines bytes h.items h.counted reading.skipped all.on_lines h.reading.skipped;
+          left_out = are_left_out_on_lines bytes h.items h.counted reading.left_out.items all.on_lines h.reading.left_out;
         }
 
     module _ (next : RecordReader R) (fields : Fields) (found : FoundRecord) (read : ReadsRecord rem input next fields (Some found)) where
@@ -171,15 +178,15 @@ module _ {R : Type 0} (rules : LogRules) (rem : R → Option (List ℕ)) (initia
           → LogSoFar rules rem initial next new (count + 1)
       log_so_far-more new takes = record {
         records = h.records ++ fields ∷ [];
-        items = h.items ++ takes.1.0 ∷ [];
+        items = h.items ++ takes.1 ∷ [];
         counted = h.counted ++ found.line ∷ [];
         read = λ bytes start.
             (subst (ReadsOne rem next bytes (h.records ++ fields ∷ []) (h.counted ++ found.line ∷ [])) takes.0 (one bytes start)).0;
-        make = said-push rules [] h.records h.items fields takes.1.0 h.make takes.1.1;
+        make = said-push rules [] h.records h.items fields takes.1 h.make takes.2;
         one_each = length-append h.records (fields ∷ []) ∙ ap (λ n. n + 1) h.one_each;
         line_each = length-append h.counted (found.line ∷ []) ∙ ap (λ n. n + 1) h.line_each;
-        reading = subst (λ (lines : List ℕ). IsPartialLog (h.items ++ takes.1.0 ∷ []) lines new)
-            (ap (λ n. rising 0 h.counted ++ n ∷ []) line_is ∙ sym (rising-push 0 h.counted found.line)) takes.1.2;
+        reading = subst (λ (lines : List ℕ). IsPartialLog (h.items ++ takes.1 ∷ []) lines new)
+            (ap (λ n. rising 0 h.counted ++ n ∷ []) line_is ∙ sym (rising-push 0 h.counted found.line)) takes.3;
       }
 
       -- it is bad
@@ -192,7 +199,7 @@ module _ {R : Type 0} (rules : LogRules) (rem : R → Option (List ℕ)) (initia
         subst (IsOnLine bytes (length h.counted)) (sym line_is) (on_line-last bytes h.counted found.line reads.on_lines),
       )
       bad_next bytes false why reads is = (
-        inr (reads.1.closed, is),
+        inr (reads.1.closed, is.0, is.1),
         reads.1.begins,
         subst (IsOnLine bytes (length h.counted)) (sym line_is) (on_line-first bytes h.counted found.line reads.1.on_lines),
       )

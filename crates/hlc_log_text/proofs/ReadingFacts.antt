@@ -1,6 +1,6 @@
 -- The readings of a log's events are such as its records may write, and the stamps of restarts leave room above them.
-use Rattle.std.proofs.Common.{◌≡◌, ◌≤◌, ◌*◌, ◌/◌, ℕ, Bool, true, false, List, [], ◌∷◌, ◌++◌, Option, Some, None, Ok, Err, Result, ap, arith, cond, length, map, refl, subst, sym}
-use Rattle.std.specs.Prelude.{◌==◌, ◌&&◌, All, IfErr, IfOk, IfSome, MatchResult, is_some, max, nat_le, nat_lt, not, option_map}
+use Rattle.std.proofs.Common.{◌≡◌, ◌≤◌, ◌*◌, ◌/◌, ℕ, Bool, true, false, List, [], ◌∷◌, ◌++◌, Option, Some, None, Ok, Err, Result, ap, arith, cond, inl, inr, length, map, refl, subst, sym}
+use Rattle.std.specs.Prelude.{◌==◌, ◌&&◌, All, IfErr, IfOk, MatchResult, is_some, max, nat_le, nat_lt, not, option_map}
 use Rattle.std.specs.Option.{option_and_then}
 use Rattle.std.proofs.lemmas.Bool.{and_parts, leb-true, ltb-true}
 use Rattle.std.proofs.lemmas.List.Elements.{All-cons, All-head, All-map, All-nil, All-tail, All-weaker}
@@ -19,6 +19,7 @@ use Rattle.hlc_log.specs.declared.log_event.LogKind.{LogKind}
 use Rattle.hlc_log.specs.declared.log_event.LogKind.TheVariants.{Local, Outside, Receive, Restart, Send}
 use Rattle.hlc_causality.specs.declared.event_rule.TheConstants.{MAX_FLOOR_C}
 use Rattle.hlc_log.specs.Events.{IsInRange, IsNumbered, IsSmallCarried}
+use Rattle.hlc_log_text.specs.BadColumn.{bad_of_carried}
 use Rattle.hlc_log_text.specs.Columns.{arranged_by, carried_after_word, carried_by, carried_first, carried_for, carried_second, columns_of, from_by, from_in, if_small, is_complete, names_sender}
 use Rattle.hlc_log_text.specs.declared.columns.Columns.{Columns}
 use Rattle.hlc_log_text.specs.declared.bad_log.BadLog.{BadLog}
@@ -29,11 +30,12 @@ use Rattle.hlc_log_text.specs.declared.log_column.LogColumn.{LogColumn}
 use Rattle.hlc_log_text.specs.declared.log_word.LogWord.{LogWord}
 use Rattle.hlc_log_text.specs.declared.log_word.LogWord.TheVariants as word
 use Rattle.hlc_log_text.specs.declared.record_head.RecordHead.{RecordHead}
-use Rattle.hlc_log_text.specs.LogItem.{Asks, LogItem, Names, Skips, Tells, asks, begins_as_skip, carry, columns_after, events_in, header_item, is_header, item_after, item_after_word, item_from, item_in, other_item, skip_item, tells, unless_missing}
+use Rattle.hlc_log_text.specs.LogItem.{Asks, Fails, LogItem, Names, Skips, Tells, asks, begins_as_skip, carry, columns_after, events_in, header_item, is_header, item_after, item_after_word, item_from, item_in, other_item, skip_item, tells, unless_missing}
 use Rattle.hlc_log_text.specs.LogText.{apart_count, kind_word, message_names, senders_of, unnamed_in, with_names}
 use Rattle.hlc_log_text.specs.Missing.{missing_by}
 use Rattle.hlc_log_text.specs.LogWord.{has_fields_of, log_word_of}
-use Rattle.hlc_log_text.specs.NamedEvent.{NamedEvent, assumed_reading, carrying, has_good_names, head_by, head_from, head_of, head_or_name, head_with, if_reading, label_of, message_place, named_event_from, named_event_of, reading_of, reading_with, restart_head, stamp_or_zero, stamp_told, told_by, tolerated, without_asides}
+use Rattle.hlc_log_text.specs.NamedEvent.{NamedEvent, assumed_reading, carrying, has_good_names, head_by, head_from, head_of, head_or_bad, head_with, if_reading, label_of, message_place, named_event_from, named_event_of, reading_of, reading_with, restart_head, stamp_or_zero, stamp_told, told_by, tolerated, without_asides}
+use Rattle.hlc_log_text.specs.PartialLog.{SaysAfter}
 use Rattle.hlc_log_text.specs.Question.{Asked, asked_of}
 use Rattle.hlc_log_text.specs.ReadLog.{ExplainsFault, IsReadWhole, SayAfter, SayItems}
 use Rattle.hlc_log_text.proofs.ApartTexts.{in_range_apart_if, numbered_apart_if}
@@ -138,19 +140,20 @@ head_from_in_range rules w field (Some told) head is = by_reading (reading_with 
   by_reading (Some reading) found is =
       head_by_in_range w reading (not (length field == 0)) told head (with_is_reading rules field (stamp_or_zero told) reading found) is
 
-head_is_there : (o : Option RecordHead) (good : Bool) (head : RecordHead) → head_or_name o good ≡ Ok head → o ≡ Some head
-head_is_there None good head is = absurd (cc)
-head_is_there (Some h) false head is = absurd (cc)
-head_is_there (Some h) true head is = let same : h ≡ head = cc in ap (λ (h : RecordHead). (let o : Option RecordHead = Some h in o)) same
+head_is_there : (rules : LogRules) (from : Option (List ℕ)) (fields : Fields) (o : Option RecordHead) (good : Bool) (head : RecordHead)
+    → head_or_bad rules from fields o good ≡ Ok head → o ≡ Some head
+head_is_there rules from fields None good head is = absurd (cc)
+head_is_there rules from fields (Some h) false head is = absurd (cc)
+head_is_there rules from fields (Some h) true head is = let same : h ≡ head = cc in ap (λ (h : RecordHead). (let o : Option RecordHead = Some h in o)) same
 
 head_is_in_range : (rules : LogRules) (w : LogWord) (from : Option (List ℕ)) (fields : Fields) (head : RecordHead) → head_of rules w from fields ≡ Ok head → IsHeadInRange head
 head_is_in_range rules w from fields head is = by_count (has_fields_of rules.form w (length fields)) is where
   by_count : (test : Bool)
-      → (let r : Result RecordHead BadLog = cond test (head_or_name (head_with rules w fields) (has_good_names rules.form w from fields)) (Err bad.Fields) in r) ≡ Ok head
+      → (let r : Result RecordHead BadLog = cond test (head_or_bad rules from fields (head_with rules w fields) (has_good_names rules.form w from fields)) (Err bad.Fields) in r) ≡ Ok head
       → IsHeadInRange head
   by_count false is = absurd (cc)
   by_count true is =
-      let there = head_is_there (head_with rules w fields) (has_good_names rules.form w from fields) head is in
+      let there = head_is_there rules from fields (head_with rules w fields) (has_good_names rules.form w from fields) head is in
       head_from_in_range rules w (field_of fields 2) (stamp_told rules.form w fields) head there
 
 event_head : (form : StampForm) (w : LogWord) (from : Option (List ℕ)) (fields : Fields) (head : Result RecordHead BadLog) (event : NamedEvent)
@@ -198,13 +201,14 @@ event_in_range rules from (Some w) fields event is =
     (head_is_in_range rules w from fields event.head made.0, made.1)
 
 -- what is told of a carried stamp leaves room above it
-abbrev IsSmallTold : Option (Option Pair) → Type 0
-IsSmallTold told = IfSome told IsSmallCarried
+abbrev IsSmallTold : Result (Option Pair) LogColumn → Type 0
+IsSmallTold told = IfOk told IsSmallCarried
 
-if_small_told : (stamp : Option Stamp) → IsSmallTold (if_small stamp)
-if_small_told None = tt
-if_small_told (Some stamp) = by_test (nat_lt stamp.c MAX_FLOOR_C) refl where
-  by_test : (test : Bool) → nat_lt stamp.c MAX_FLOOR_C ≡ test → IsSmallTold (let o : Option (Option Stamp) = cond test (Some (Some stamp)) None in o)
+if_small_told : (column : LogColumn) (stamp : Option Stamp) → IsSmallTold (if_small column stamp)
+if_small_told column None = tt
+if_small_told column (Some stamp) = by_test (nat_lt stamp.c MAX_FLOOR_C) refl where
+  by_test : (test : Bool) → nat_lt stamp.c MAX_FLOOR_C ≡ test
+      → IsSmallTold (let r : Result (Option Stamp) LogColumn = cond test (Ok (Some stamp)) (Err column) in r)
   by_test true small = ltb-true stamp.c MAX_FLOOR_C small
   by_test false small = tt
 
@@ -213,14 +217,15 @@ carried_for_small form columns word.Local fields = tt
 carried_for_small form columns word.Send fields = tt
 carried_for_small form columns word.Restart fields = tt
 carried_for_small form columns word.Receive fields =
-    by_test ((length (carried_first form columns fields) == 0) && (length (carried_second form columns fields) == 0))
+    by_test (bad_of_carried form (carried_first form columns fields))
+    ((length (carried_first form columns fields) == 0) && (length (carried_second form columns fields) == 0))
     (names_sender (from_in columns fields) (field_of fields columns.message))
     (fields_stamp form (carried_first form columns fields) (carried_second form columns fields)) where
-      by_test : (test is_needed : Bool) (stamp : Option Stamp)
-          → IsSmallTold (let o : Option (Option Stamp) = cond test (cond is_needed None (Some None)) (if_small stamp) in o)
-      by_test true true stamp = tt
-      by_test true false stamp = tt
-      by_test false is_needed stamp = if_small_told stamp
+      by_test : (column : LogColumn) (test is_needed : Bool) (stamp : Option Stamp)
+          → IsSmallTold (let r : Result (Option Stamp) LogColumn = cond test (cond is_needed (Err column) (Ok None)) (if_small column stamp) in r)
+      by_test column true true stamp = tt
+      by_test column true false stamp = tt
+      by_test column false is_needed stamp = if_small_told column stamp
 
 carried_by_small : (form : StampForm) (columns : Option Columns) (fields : Fields) → IsSmallTold (carried_by form columns fields)
 carried_by_small form None fields = tt
@@ -229,19 +234,20 @@ carried_by_small form (Some columns) fields = by_word (log_word_of (field_of fie
   by_word None = tt
   by_word (Some w) = carried_for_small form columns w fields
 
-carry_in_range : (carried : Option (Option Pair)) (said : Result LogItem BadLog) → IsSmallTold carried
+carry_in_range : (carried : Result (Option Pair) LogColumn) (said : Result LogItem BadLog) → IsSmallTold carried
     → ((event : NamedEvent) → said ≡ Ok (Tells event) → IsPlainInRange event) → (event : NamedEvent) → carry carried said ≡ Ok (Tells event)
     → IsNamedInRange event
 unfolding IsNamedInRange
-carry_in_range None said small plain event is = absurd (cc)
-carry_in_range (Some None) said small plain event is =
+carry_in_range (Err column) said small plain event is = absurd (cc)
+carry_in_range (Ok None) said small plain event is =
     let h = plain event is in
     (h.0, subst IsSmallCarried (sym h.1) tt)
-carry_in_range (Some (Some stamp)) (Err why) small plain event is = absurd (cc)
-carry_in_range (Some (Some stamp)) (Ok (Asks asked)) small plain event is = absurd (cc)
-carry_in_range (Some (Some stamp)) (Ok (Names columns)) small plain event is = absurd (cc)
-carry_in_range (Some (Some stamp)) (Ok Skips) small plain event is = absurd (cc)
-carry_in_range (Some (Some stamp)) (Ok (Tells inner)) small plain event is =
+carry_in_range (Ok (Some stamp)) (Err why) small plain event is = absurd (cc)
+carry_in_range (Ok (Some stamp)) (Ok (Asks asked)) small plain event is = absurd (cc)
+carry_in_range (Ok (Some stamp)) (Ok (Names columns)) small plain event is = absurd (cc)
+carry_in_range (Ok (Some stamp)) (Ok Skips) small plain event is = absurd (cc)
+carry_in_range (Ok (Some stamp)) (Ok (Fails why)) small plain event is = absurd (cc)
+carry_in_range (Ok (Some stamp)) (Ok (Tells inner)) small plain event is =
     let same : carrying (Some stamp) inner ≡ event = cc in
     subst (λ (e : NamedEvent). IsHeadInRange e.head × IsSmallCarried e.carried) same ((plain inner refl).0, small)
 
@@ -271,6 +277,11 @@ after_in_range rules before fields event is =
       by_header true missing columns is = absurd (header_no_event rules.form (columns_of fields) event is)
       by_header false missing columns is = by_missing missing columns is
 
+said_in_range : (rules : LogRules) (before : List LogItem) (fields : Fields) (event : NamedEvent) → SaysAfter rules before fields (Tells event)
+    → IsNamedInRange event
+said_in_range rules before fields event (inl is) = after_in_range rules before fields event is
+said_in_range rules before fields event (inr left) = let same = left.2 in absurd (cc)
+
 -- so have the events among what records say
 all_after : (rules : LogRules) (before : List LogItem) (records : List Fields) (items : List LogItem) → SayAfter rules before records items
     → All IsNamedInRange (events_in items)
@@ -280,8 +291,9 @@ all_after rules before (fields ∷ records) [] say = absurd say
 all_after rules before (fields ∷ records) (Asks asked ∷ items) say = all_after rules (before ++ Asks asked ∷ []) records items say.1
 all_after rules before (fields ∷ records) (Skips ∷ items) say = all_after rules (before ++ Skips ∷ []) records items say.1
 all_after rules before (fields ∷ records) (Names columns ∷ items) say = all_after rules (before ++ Names columns ∷ []) records items say.1
+all_after rules before (fields ∷ records) (Fails why ∷ items) say = all_after rules (before ++ Fails why ∷ []) records items say.1
 all_after rules before (fields ∷ records) (Tells event ∷ items) say =
-    All-cons IsNamedInRange event (events_in items) (after_in_range rules before fields event say.0)
+    All-cons IsNamedInRange event (events_in items) (said_in_range rules before fields event say.0)
     (all_after rules (before ++ Tells event ∷ []) records items say.1)
 
 all_in_range : (rules : LogRules) (records : List Fields) (items : List LogItem) → SayItems rules records items → All IsNamedInRange (events_in items)

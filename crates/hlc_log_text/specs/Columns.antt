@@ -1,10 +1,12 @@
 -- The columns of a log.
-use Rattle.std.specs.Prelude.{◌==◌, ◌&&◌, ℕ, Bool, false, List, [], ◌∷◌, ◌++◌, Option, Some, None, bytes_eq, if◌then◌else◌, length, nat_lt, not}
+use Rattle.std.specs.Prelude.{◌==◌, ◌&&◌, ℕ, Bool, false, List, [], ◌∷◌, ◌++◌, Option, Some, None, Result, Ok, Err, bytes_eq, if◌then◌else◌, length, nat_lt, not}
 use Rattle.std.specs.List.{position_or_len}
 use Rattle.hlc_causality.specs.declared.event_rule.TheConstants.{MAX_FLOOR_C}
 use Rattle.hlc_stamp.specs.declared.stamp.Stamp.{Stamp}
 use Rattle.hlc_csv.specs.Rows.{Fields, field_of}
+use Rattle.hlc_log_text.specs.BadColumn.{bad_of_carried}
 use Rattle.hlc_log_text.specs.declared.columns.Columns.{Columns}
+use Rattle.hlc_log_text.specs.declared.log_column.LogColumn.{LogColumn}
 use Rattle.hlc_log_text.specs.declared.log_column.LogColumn.TheVariants as column
 use Rattle.hlc_log_text.specs.declared.log_word.LogWord.{LogWord}
 use Rattle.hlc_log_text.specs.declared.log_word.LogWord.TheVariants as word
@@ -127,15 +129,17 @@ carried_second Pair columns fields = field_of fields columns.carried_c
 carried_second Dotted columns fields = []
 carried_second (Packed p) columns fields = []
 
--- what is told of a carried stamp is told well, or isn't: then it is None. A stamp is to leave room for each c above it
-abbrev pub if_small : Option Stamp → Option (Option Stamp)
-if_small None = None
-if_small (Some stamp) = if nat_lt stamp.c MAX_FLOOR_C then Some (Some stamp) else None
+-- what is told of a carried stamp is told well, or isn't, in this column. A stamp is to leave room for each c above it
+abbrev pub if_small : LogColumn → Option Stamp → Result (Option Stamp) LogColumn
+if_small column None = Err column
+if_small column (Some stamp) = if nat_lt stamp.c MAX_FLOOR_C then Ok (Some stamp) else Err column
 
 -- what two fields tell: nothing if they are empty, but a receive that names its sender has to tell it
-abbrev pub carried_by_fields : StampForm → (is_needed : Bool) → (first second : List ℕ) → Option (Option Stamp)
+abbrev pub carried_by_fields : StampForm → (is_needed : Bool) → (first second : List ℕ) → Result (Option Stamp) LogColumn
 carried_by_fields form is_needed first second =
-    if (length first == 0) && (length second == 0) then if is_needed then None else Some None else if_small (fields_stamp form first second)
+    if (length first == 0) && (length second == 0)
+    then if is_needed then Err (bad_of_carried form first) else Ok None
+    else if_small (bad_of_carried form first) (fields_stamp form first second)
 
 -- the field of the column `from`, if there is such a column
 abbrev pub from_in : Columns → Fields → Option (List ℕ)
@@ -147,16 +151,16 @@ names_sender None message = false
 names_sender (Some from) message = (length message == 0) && not (length from == 0)
 
 -- what a record of a word tells: nothing but if it is one of a receive
-abbrev pub carried_for : StampForm → Columns → LogWord → Fields → Option (Option Stamp)
-carried_for form columns word.Local fields = Some None
-carried_for form columns word.Send fields = Some None
+abbrev pub carried_for : StampForm → Columns → LogWord → Fields → Result (Option Stamp) LogColumn
+carried_for form columns word.Local fields = Ok None
+carried_for form columns word.Send fields = Ok None
 carried_for form columns word.Receive fields =
     carried_by_fields form (names_sender (from_in columns fields) (field_of fields columns.message))
     (carried_first form columns fields) (carried_second form columns fields)
-carried_for form columns word.Restart fields = Some None
+carried_for form columns word.Restart fields = Ok None
 
-abbrev pub carried_after_word : StampForm → Columns → Option LogWord → Fields → Option (Option Stamp)
-carried_after_word form columns None fields = Some None
+abbrev pub carried_after_word : StampForm → Columns → Option LogWord → Fields → Result (Option Stamp) LogColumn
+carried_after_word form columns None fields = Ok None
 carried_after_word form columns (Some w) fields = carried_for form columns w fields
 
 -- where no columns are named nothing is told, and there is no column `from`
@@ -164,6 +168,6 @@ abbrev pub from_by : Option Columns → Fields → Option (List ℕ)
 from_by None fields = None
 from_by (Some columns) fields = from_in columns fields
 
-abbrev pub carried_by : StampForm → Option Columns → Fields → Option (Option Stamp)
-carried_by form None fields = Some None
+abbrev pub carried_by : StampForm → Option Columns → Fields → Result (Option Stamp) LogColumn
+carried_by form None fields = Ok None
 carried_by form (Some columns) fields = carried_after_word form columns (log_word_of (field_of fields 0)) fields

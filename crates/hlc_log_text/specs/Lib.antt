@@ -1,5 +1,7 @@
+pub mod BadColumn
 pub mod BadLog
 pub mod Columns
+pub mod FaultRule
 pub mod Labels
 pub mod LogColumn
 pub mod LogItem

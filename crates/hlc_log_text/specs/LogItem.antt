@@ -1,10 +1,11 @@
 -- What the records of a log say.
-use Rattle.std.specs.Prelude.{◌==◌, ℕ, Bool, false, List, [], ◌∷◌, Option, Some, None, Result, Ok, Err, bytes_eq, codes, if◌then◌else◌, is_some, length}
-use Rattle.std.specs.List.{filter_map}
+use Rattle.std.specs.Prelude.{◌==◌, ℕ, Bool, false, List, [], ◌∷◌, Option, Some, None, Result, Ok, Err, bytes_eq, codes, if◌then◌else◌, is_some, length, option_map}
+use Rattle.std.specs.List.{cons_option, filter_map}
 use Rattle.hlc_stamp.specs.Order.{Pair}
 use Rattle.hlc_csv.specs.Rows.{Fields, field_of}
 use Rattle.hlc_log_text.specs.declared.log_rules.LogRules.{LogRules}
 use Rattle.hlc_log_text.specs.declared.stamp_form.StampForm.{StampForm}
+use Rattle.hlc_log_text.specs.declared.bad_log.BadLine.{BadLine}
 use Rattle.hlc_log_text.specs.declared.bad_log.BadLog.{BadLog}
 use Rattle.hlc_log_text.specs.declared.bad_log.BadLog.TheVariants as bad
 use Rattle.hlc_log_text.specs.declared.columns.Columns.{Columns}
@@ -15,15 +16,16 @@ use Rattle.hlc_log_text.specs.declared.record_syntax.RecordSyntax.TheVariants.{C
 use Rattle.hlc_log_text.specs.Columns.{arranged_by, begins_as_header, carried_by, columns_by, columns_of, from_by, is_complete}
 use Rattle.hlc_log_text.specs.LogWord.{log_word_of}
 use Rattle.hlc_log_text.specs.Missing.{missing_by}
-use Rattle.hlc_log_text.specs.NamedEvent.{NamedEvent, carrying, named_event_of}
+use Rattle.hlc_log_text.specs.NamedEvent.{NamedEvent, before_carried, carrying, named_event_of}
 use Rattle.hlc_log_text.specs.Question.{Asked, asked_of}
 
--- a record tells of an event, asks a question, names the columns of a log, or says that a record was left out
+-- a record tells of an event, asks a question, names the columns of a log, says that a record was left out, or is bad, and is left out
 pub data LogItem : Type 0 where
   Tells : NamedEvent → LogItem
   Asks : Asked → LogItem
   Names : Columns → LogItem
   Skips : LogItem
+  Fails : BadLog → LogItem
 
 abbrev pub tells : Result NamedEvent BadLog → Result LogItem BadLog
 tells (Ok event) = Ok (Tells event)
@@ -70,6 +72,7 @@ header_columns (Names columns ∷ items) = Some columns
 header_columns (Tells event ∷ items) = None
 header_columns (Asks asked ∷ items) = None
 header_columns (Skips ∷ items) = None
+header_columns (Fails why ∷ items) = None
 
 -- the columns of a log after some items: those that its header names, or all if it is of JSON lines
 abbrev pub columns_after : LogRules → List LogItem → Option Columns
@@ -86,16 +89,16 @@ abbrev pub with_carried : Pair → Result LogItem BadLog → Result LogItem BadL
 with_carried stamp (Ok (Tells event)) = Ok (Tells (carrying (Some stamp) event))
 with_carried stamp said = said
 
--- why a record says nothing whose carried stamp is badly written: it has another number of fields, which is the first reason, or a bad number
-abbrev pub refusal : Result LogItem BadLog → BadLog
-refusal (Err bad.Fields) = bad.Fields
-refusal said = bad.Number
+-- why a record says nothing whose carried stamp is badly written, in a column
+abbrev pub refusal : LogColumn → Result LogItem BadLog → BadLog
+refusal column (Ok item) = bad.Number column
+refusal column (Err why) = before_carried why column
 
--- what a record says, with what it tells of a carried stamp, if that is well written
-abbrev pub carry : Option (Option Pair) → Result LogItem BadLog → Result LogItem BadLog
-carry None said = Err (refusal said)
-carry (Some None) said = said
-carry (Some (Some stamp)) said = with_carried stamp said
+-- what a record says, with what it tells of a carried stamp, or the column where that is badly written
+abbrev pub carry : Result (Option Pair) LogColumn → Result LogItem BadLog → Result LogItem BadLog
+carry (Err column) said = Err (refusal column said)
+carry (Ok None) said = said
+carry (Ok (Some stamp)) said = with_carried stamp said
 
 -- what a record says that has its fields in these columns, or in their places if there are none
 abbrev pub item_in : LogRules → Option Columns → Fields → Result LogItem BadLog
@@ -118,19 +121,32 @@ if_event (Tells event) = Some event
 if_event (Asks asked) = None
 if_event (Names columns) = None
 if_event Skips = None
+if_event (Fails why) = None
 
 abbrev pub if_asked : LogItem → Option Asked
 if_asked (Tells event) = None
 if_asked (Asks asked) = Some asked
 if_asked (Names columns) = None
 if_asked Skips = None
+if_asked (Fails why) = None
 
--- the events among what records say, and what they ask, in their order
+-- why a record was left out that is bad
+abbrev pub if_reason : LogItem → Option BadLog
+if_reason (Tells event) = None
+if_reason (Asks asked) = None
+if_reason (Names columns) = None
+if_reason Skips = None
+if_reason (Fails why) = Some why
+
+-- the events among what records say, what they ask, and why some were left out, in their order
 abbrev pub events_in : List LogItem → List NamedEvent
 events_in items = filter_map if_event items
 
 abbrev pub questions_in : List LogItem → List Asked
 questions_in items = filter_map if_asked items
+
+abbrev pub reasons_in : List LogItem → List BadLog
+reasons_in items = filter_map if_reason items
 
 -- of the lines of records, those of the records of which something is so
 abbrev pub lines_where : (LogItem → Bool) → List LogItem → List ℕ → List ℕ
@@ -145,3 +161,13 @@ is_telling item = is_some (if_event item)
 -- of the lines of records, those of the records that tell of events
 abbrev pub event_lines : List LogItem → List ℕ → List ℕ
 event_lines items lines = lines_where is_telling items lines
+
+-- a reason with a line, if it is there
+abbrev pub bad_line : (line : ℕ) → Option BadLog → Option BadLine
+bad_line line why = option_map (λ why. record { line = line; why = why }) why
+
+-- the bad ones among records, with why they are bad and their lines
+abbrev pub bad_lines_in : List LogItem → List ℕ → List BadLine
+bad_lines_in [] lines = []
+bad_lines_in (item ∷ items) [] = []
+bad_lines_in (item ∷ items) (line ∷ lines) = cons_option (bad_line line (if_reason item)) (bad_lines_in items lines)

@@ -2,7 +2,7 @@
 use Rattle.std.specs.Prelude.{◌≡◌, ℕ, ◌+◌, ◌*◌, ◌<◌, ◌≤◌, All, AllPairs, List, [], Option, Some, None, bytes_eq, length, map, option_map, position, slice_get, slice_index_or}
 use Rattle.std.specs.List.{filter_map}
 use Rattle.std.specs.Option.{option_and_then}
-use Rattle.hlc_stamp.specs.declared.limits.TheConstants.{MAX_NODES}
+use Rattle.hlc_log.specs.declared.log_event.TheConstants.{MAX_LOG_NODES}
 use Rattle.hlc_stamp.specs.declared.id.NodeId.{NodeId}
 use Rattle.hlc_log.specs.declared.log_event.LogEvent.{LogEvent}
 use Rattle.hlc_log.specs.declared.log_event.LogKind.{LogKind}
@@ -14,7 +14,7 @@ use Rattle.hlc_log_text.specs.declared.log_word.LogWord.{LogWord}
 use Rattle.hlc_log_text.specs.declared.log_word.LogWord.TheVariants as word
 use Rattle.hlc_log_text.specs.Names.{first_mentions}
 use Rattle.hlc_log_text.specs.Labels.{label_at}
-use Rattle.hlc_log_text.specs.LogItem.{LogItem, events_in, questions_in}
+use Rattle.hlc_log_text.specs.LogItem.{LogItem, events_in, questions_in, reasons_in}
 use Rattle.hlc_log_text.specs.NamedEvent.{NamedEvent, without_asides}
 use Rattle.hlc_log_text.specs.Question.{plain_asked}
 use Rattle.hlc_log_text.specs.Skipped.{skip_count, skipped_count}
@@ -76,16 +76,17 @@ pub record IsRawLogOf (events : List NamedEvent) (text : LogText) : Type 0 where
   pub named : All (IsNamed text.nodes (message_names events)) text.log.events
   pub nodes : text.nodes ≡ node_names events
   pub messages : text.messages ≡ length (message_names events)
-  pub few_nodes : length text.nodes ≤ MAX_NODES
+  pub few_nodes : length text.nodes ≤ MAX_LOG_NODES
   pub few_messages : text.messages ≤ length text.log.events
   pub labels : (place : ℕ) → label_at text.labels place ≡ label_of_event events place
   pub lines_rise : AllPairs (λ d e. d.line < e.line) text.log.events
 
--- so it has the events that records tell of, and the questions that they ask, in their order, and knows how many were left out
+-- so it has the events that records tell of, and the questions that they ask, in their order, and knows how many were left out, and why
 pub record IsRawTextOf (items : List LogItem) (text : LogText) : Type 0 where
   pub log : IsRawLogOf (events_in items) text
   pub questions : map plain_asked text.questions.items ≡ questions_in items
   pub skipped : skipped_count text.skipped ≡ skip_count items
+  pub left_out : map (λ b. b.why) text.left_out.items ≡ reasons_in items
 
 -- the node of a name among the names of a log's nodes, if it is one
 abbrev pub node_of : List (List ℕ) → Option (List ℕ) → Option NodeId
@@ -119,17 +120,18 @@ pub record IsLogOf (events : List NamedEvent) (text : LogText) : Type 0 where
   pub apart : text.log.events ≡ apart_if (unnamed_in (message_names events)) (length (message_names events)) (senders_of text.nodes events) raw
   pub nodes : text.nodes ≡ node_names events
   pub messages : text.messages ≡ apart_count (unnamed_in (message_names events)) (length (message_names events)) (length raw)
-  pub few_nodes : length text.nodes ≤ MAX_NODES
+  pub few_nodes : length text.nodes ≤ MAX_LOG_NODES
   pub few_messages : text.messages ≤ 2 * length text.log.events
   pub labels : (place : ℕ) → label_at text.labels place ≡ label_of_event events place
   pub lines_rise : AllPairs (λ d e. d.line < e.line) text.log.events
 
--- the text has the events that records tell of and the questions that they ask, in their order, and knows how many were left out
+-- the text has the events that records tell of and the questions that they ask, in their order, and knows how many were left out, and why
 pub record IsTextOf (items : List LogItem) (text : LogText) : Type 0 where
   pub log : IsLogOf (events_in items) text
   pub questions : map plain_asked text.questions.items ≡ questions_in items
   pub skipped : skipped_count text.skipped ≡ skip_count items
+  pub left_out : map (λ b. b.why) text.left_out.items ≡ reasons_in items
 
 -- how many records a text has
 abbrev pub record_count : LogText → ℕ
-record_count text = length text.log.events + length text.questions.items + skipped_count text.skipped
+record_count text = length text.log.events + length text.questions.items + skipped_count text.skipped + length text.left_out.items

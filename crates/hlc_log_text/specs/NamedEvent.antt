@@ -7,6 +7,7 @@ use Rattle.hlc_stamp.specs.declared.stamp.Stamp.{Stamp}
 use Rattle.hlc_stamp.specs.Order.{Pair, zero_pair}
 use Rattle.hlc_csv.specs.Number.{number_of}
 use Rattle.hlc_csv.specs.Rows.{Fields, field_of}
+use Rattle.hlc_log_text.specs.BadColumn.{bad_of_stamp}
 use Rattle.hlc_log_text.specs.Columns.{names_sender}
 use Rattle.hlc_log_text.specs.StampForms.{form_stamp, is_empty_stamp, stamp_field_count}
 use Rattle.hlc_log_text.specs.Units.{in_unit_of_l}
@@ -14,6 +15,8 @@ use Rattle.hlc_log_text.specs.declared.log_rules.LogRules.{LogRules}
 use Rattle.hlc_log_text.specs.declared.stamp_form.StampForm.{StampForm}
 use Rattle.hlc_log_text.specs.declared.bad_log.BadLog.{BadLog}
 use Rattle.hlc_log_text.specs.declared.bad_log.BadLog.TheVariants as bad
+use Rattle.hlc_log_text.specs.declared.log_column.LogColumn.{LogColumn}
+use Rattle.hlc_log_text.specs.declared.log_column.LogColumn.TheVariants as column
 use Rattle.hlc_log_text.specs.declared.log_word.LogWord.{LogWord}
 use Rattle.hlc_log_text.specs.declared.log_word.LogWord.TheVariants as word
 use Rattle.hlc_log_text.specs.declared.record_head.RecordHead.{RecordHead}
@@ -97,25 +100,49 @@ head_from rules w field (Some told) =
 abbrev pub head_with : LogRules → LogWord → Fields → Option RecordHead
 head_with rules w fields = head_from rules w (field_of fields 2) (stamp_told rules.form w fields)
 
--- the numbers are there: then the names are good
-abbrev pub head_or_name : Option RecordHead → Bool → Result RecordHead BadLog
-head_or_name None good = Err bad.Number
-head_or_name (Some head) good = if good then Ok head else Err bad.Name
+-- whether a reading is there and badly written
+abbrev pub is_bad_reading : LogRules → List ℕ → Bool
+is_bad_reading rules field = not (length field == 0) && not (is_some (reading_of rules field))
+
+-- the column of a record whose numbers aren't there: that of its reading, if this is so of it, and else that of its stamp
+abbrev pub number_column : LogRules → Fields → LogColumn
+number_column rules fields =
+    if is_bad_reading rules (field_of fields 2) then column.Reading else bad_of_stamp rules.form (field_of fields 3)
+
+-- the column of a record whose names aren't good: that of its node, if this is no name, and else the one that names its message
+abbrev pub name_column : StampForm → (from : Option (List ℕ)) → Fields → LogColumn
+name_column form from fields =
+    if not (is_name (field_of fields 1)) then column.Node
+    else if names_sender from (field_of fields (message_place form)) then column.From
+    else column.Message
+
+-- the numbers of a record are there: then its names are good
+abbrev pub head_or_bad : LogRules → (from : Option (List ℕ)) → Fields → Option RecordHead → (good : Bool) → Result RecordHead BadLog
+head_or_bad rules from fields None good = Err (bad.Number (number_column rules fields))
+head_or_bad rules from fields (Some head) good = if good then Ok head else Err (bad.Name (name_column rules.form from fields))
 
 -- what a record of a word says but for its names, or the first reason for which it says nothing: the number of fields has to be right, then the
 -- numbers are there, and then the names are good
 abbrev pub head_of : LogRules → LogWord → (from : Option (List ℕ)) → Fields → Result RecordHead BadLog
 head_of rules w from fields =
-    if has_fields_of rules.form w (length fields) then head_or_name (head_with rules w fields) (has_good_names rules.form w from fields) else Err bad.Fields
+    if has_fields_of rules.form w (length fields)
+    then head_or_bad rules from fields (head_with rules w fields) (has_good_names rules.form w from fields)
+    else Err bad.Fields
 
--- the same with what the record tells of a carried stamp; if that is badly written, the numbers aren't there
-abbrev pub carried_head : Result RecordHead BadLog → Option (Option Pair) → Result (RecordHead × Option Pair) BadLog
-carried_head (Ok head) (Some carried) = Ok (head, carried)
-carried_head (Err why) (Some carried) = Err why
-carried_head (Err bad.Fields) None = Err bad.Fields
-carried_head said None = Err bad.Number
+-- the first reason of a record that is bad for this one, and by its carried stamp, which is badly written in a column: that is a number, and the last
+abbrev pub before_carried : BadLog → (carried : LogColumn) → BadLog
+before_carried bad.Fields column = bad.Fields
+before_carried (bad.Number first) column = bad.Number first
+before_carried why column = bad.Number column
 
-abbrev pub carried_head_of : LogRules → LogWord → (from : Option (List ℕ)) → Fields → Option (Option Pair) → Result (RecordHead × Option Pair) BadLog
+-- the same with what the record tells of a carried stamp, or the column where that is badly written
+abbrev pub carried_head : Result RecordHead BadLog → Result (Option Pair) LogColumn → Result (RecordHead × Option Pair) BadLog
+carried_head (Ok head) (Ok carried) = Ok (head, carried)
+carried_head (Err why) (Ok carried) = Err why
+carried_head (Ok head) (Err column) = Err (bad.Number column)
+carried_head (Err why) (Err column) = Err (before_carried why column)
+
+abbrev pub carried_head_of : LogRules → LogWord → (from : Option (List ℕ)) → Fields → Result (Option Pair) LogColumn → Result (RecordHead × Option Pair) BadLog
 carried_head_of rules w from fields carried = carried_head (head_of rules w from fields) carried
 
 -- the label of a record of a word, if it has one: the one field more than the word has

@@ -2,7 +2,8 @@
 use Rattle.std.specs.Prelude.{◌≡◌, ℕ, Bool, true, false, ◌+◌, ◌<◌, ◌≤◌, ◌⊎◌, All, List, [], ◌∷◌, ◌++◌, Option, Some, None, Result, Ok, Err, length, map, max, slice_get}
 use Rattle.std.specs.List.{range_with_len}
 use Rattle.hlc_stamp.specs.declared.id.NodeId.{NodeId}
-use Rattle.hlc_stamp.specs.declared.limits.TheConstants.{MAX_CAPACITY, MAX_NODES}
+use Rattle.hlc_stamp.specs.declared.limits.TheConstants.{MAX_CAPACITY}
+use Rattle.hlc_log.specs.declared.log_event.TheConstants.{MAX_LOG_NODES}
 use Rattle.hlc_log.specs.declared.log_event.LogKind.{LogKind}
 use Rattle.hlc_log.specs.Events.{IsMessageBelow}
 use Rattle.hlc_log.specs.Log.{StoredLog}
@@ -13,10 +14,12 @@ use Rattle.hlc_log_text.specs.declared.log_rules.LogRules.{LogRules}
 use Rattle.hlc_log_text.specs.declared.bad_log.BadLine.{BadLine}
 use Rattle.hlc_log_text.specs.declared.bad_log.BadLog.{BadLog}
 use Rattle.hlc_log_text.specs.declared.bad_log.BadLog.TheVariants as bad
+use Rattle.hlc_log_text.specs.declared.fault_rule.FaultRule.{FaultRule}
 use Rattle.hlc_log_text.specs.declared.log_text.LogText.{LogText}
 use Rattle.hlc_log_text.specs.declared.log_word.LogWord.{LogWord}
 use Rattle.hlc_log_text.specs.declared.partial_log.PartialLog.{PartialLog}
-use Rattle.hlc_log_text.specs.LogItem.{Asks, LogItem, Skips, Tells, event_lines, events_in, header_columns, item_after}
+use Rattle.hlc_log_text.specs.LogItem.{Asks, Fails, LogItem, Skips, Tells, bad_lines_in, event_lines, events_in, header_columns, item_after}
+use Rattle.hlc_log_text.specs.FaultRule.{leaves_out}
 use Rattle.hlc_log_text.specs.Labels.{label_at}
 use Rattle.hlc_log_text.specs.LogText.{IsRawTextOf, apart_count, apart_if, kind_message, kind_word, message_names, node_names, node_of, record_count, sender_of_event, unnamed_in}
 use Rattle.hlc_log_text.specs.Names.{with_name}
@@ -26,8 +29,8 @@ use Rattle.hlc_log_text.specs.Skipped.{skipped_in}
 
 -- the number of a node's name among the names, which it may have joined; none if it would be one too many, and then it hasn't joined them
 abbrev pub NumbersNode : (old new : List (List ℕ)) (name : List ℕ) → Option NodeId → Type 0
-NumbersNode old new name None = (MAX_NODES < length (with_name old name)) × (new ≡ old)
-NumbersNode old new name (Some node) = (new ≡ with_name old name) × (slice_get new node.0 ≡ Some name) × (length new ≤ MAX_NODES)
+NumbersNode old new name None = (MAX_LOG_NODES < length (with_name old name)) × (new ≡ old)
+NumbersNode old new name (Some node) = (new ≡ with_name old name) × (slice_get new node.0 ≡ Some name) × (length new ≤ MAX_LOG_NODES)
 
 -- names after a message is mentioned, if a word has one
 abbrev pub with_message : List (List ℕ) → Option (List ℕ) → List (List ℕ)
@@ -55,6 +58,7 @@ text_of partial = record {
   labels = partial.labels;
   questions = partial.questions;
   skipped = partial.skipped;
+  left_out = partial.left_out;
 }
 
 -- the nodes that so many events name as senders, by their places
@@ -75,6 +79,7 @@ apart_text partial = record {
   labels = partial.labels;
   questions = partial.questions;
   skipped = partial.skipped;
+  left_out = partial.left_out;
 }
 
 -- what was read, with these names of nodes
@@ -86,11 +91,12 @@ text_with nodes partial = record {
   labels = partial.labels;
   questions = partial.questions;
   skipped = partial.skipped;
+  left_out = partial.left_out;
 }
 
 -- what was read names few nodes, and mentions no more messages than it has events
 pub record HasFewNames (partial : PartialLog) : Type 0 where
-  pub few_nodes : length partial.nodes ≤ MAX_NODES
+  pub few_nodes : length partial.nodes ≤ MAX_LOG_NODES
   pub few_messages : length partial.messages ≤ length partial.log.events
 
 -- with these names of nodes, what was read is the text with its messages told apart
@@ -111,11 +117,12 @@ pub record IsPartialLog (items : List LogItem) (lines : List ℕ) (partial : Par
   pub last : partial.line ≤ LAST_LINE + length items
   pub senders : (place : ℕ) → label_at partial.senders place ≡ sender_of_event (events_in items) place
   pub skipped : partial.skipped ≡ skipped_in items lines
+  pub left_out : partial.left_out.items ≡ bad_lines_in items lines
 
 -- one more record finds numbers for its names and its line
 pub record HasPlace (partial : PartialLog) : Type 0 where
   pub few_records : record_count (text_of partial) < MAX_CAPACITY
-  pub few_nodes : length partial.nodes ≤ MAX_NODES
+  pub few_nodes : length partial.nodes ≤ MAX_LOG_NODES
   pub few_messages : length partial.messages ≤ length partial.log.events
   pub last : partial.line < LAST_LINE + MAX_CAPACITY
 
@@ -126,7 +133,7 @@ pub record IsNextLine (partial : PartialLog) (line : ℕ) : Type 0 where
 
 -- events name more nodes, with one event more, than there may be
 abbrev pub NameTooMany : List NamedEvent → NamedEvent → Type 0
-NameTooMany events event = MAX_NODES < length (node_names (events ++ event ∷ []))
+NameTooMany events event = MAX_LOG_NODES < length (node_names (events ++ event ∷ []))
 
 -- an event is added; or it names one node too many, and what was read stays
 abbrev pub Adds : List LogItem → List ℕ → NamedEvent → (line : ℕ) → PartialLog → Bool → Type 0
@@ -165,18 +172,37 @@ abbrev pub TakesSaid : (says : List LogItem → Result LogItem BadLog) → (old 
 TakesSaid says old line new found =
     (items : List LogItem) (lines : List ℕ) → IsPartialLog items lines old → TakesOr items lines (says items) line new found
 
+-- a record is bad after others for this reason, with which the rules leave records out
+abbrev pub IsLeftOut : LogRules → List LogItem → Fields → BadLog → Type 0
+IsLeftOut rules items next why = IsBadAfter rules items next why × (leaves_out rules.faults why ≡ true)
+
+-- what a record is read as after others: what it says; or, if it is bad and left out, that
+abbrev pub SaysAfter : LogRules → List LogItem → Fields → LogItem → Type 0
+SaysAfter rules items next item = (item_after rules items next ≡ Ok item) ⊎ ((why : BadLog) × IsLeftOut rules items next why × (item ≡ Fails why))
+
+-- a bad record was left out, whatever was read before, if its line comes after that; or the rule doesn't leave it out, and what was read stays
+abbrev pub Leaves : List LogItem → List ℕ → FaultRule → BadLine → PartialLog → Option BadLine → Type 0
+Leaves items lines rule b new None = (leaves_out rule b.why ≡ true) × IsPartialLog (items ++ Fails b.why ∷ []) (lines ++ b.line ∷ []) new
+Leaves items lines rule b new (Some kept) = (leaves_out rule b.why ≡ false) × (kept ≡ b) × IsPartialLog items lines new
+
+abbrev pub LeavesNext : FaultRule → (old : PartialLog) → BadLine → (new : PartialLog) → Option BadLine → Type 0
+LeavesNext rule old b new kept =
+    (items : List LogItem) (lines : List ℕ) → IsPartialLog items lines old → IsNextLine old b.line → Leaves items lines rule b new kept
+
 -- the line that is told of the next record, which is counted to begin on a line
 abbrev pub told_line : PartialLog → (counted : ℕ) → ℕ
 told_line partial counted = max counted (partial.line + 1)
 
--- the next record is bad for this reason: nothing closes its last field; or it is bad otherwise
+-- the next record ends the reading for this reason: nothing closes its last field; or it is bad otherwise, and the rules don't leave it out
 abbrev pub IsBadFound : LogRules → List LogItem → Fields → (is_open : Bool) → BadLog → Type 0
 IsBadFound rules items next true why = why ≡ bad.Quote
-IsBadFound rules items next false why = IsBadAfter rules items next why
+IsBadFound rules items next false why = IsBadAfter rules items next why × (leaves_out rules.faults why ≡ false)
 
--- the next record is taken in; or it is bad, and begins on a line with at least as many before it as there are records, and what was read stays
+-- the next record is taken in; or it ends the reading, and begins on a line with at least as many before it as there are records, and what was
+-- read stays
 abbrev pub Takes : LogRules → List LogItem → List ℕ → Fields → (is_open : Bool) → (line : ℕ) → PartialLog → Option BadLine → Type 0
-Takes rules items lines next is_open line new None = (is_open ≡ false) × TakesOr items lines (item_after rules items next) line new None
+Takes rules items lines next is_open line new None =
+    (is_open ≡ false) × (item : LogItem) × SaysAfter rules items next item × IsPartialLog (items ++ item ∷ []) (lines ++ line ∷ []) new
 Takes rules items lines next is_open line new (Some b) =
     IsBadFound rules items next is_open b.why × (b.line ≡ line) × (length items < b.line) × IsPartialLog items lines new
 

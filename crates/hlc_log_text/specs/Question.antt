@@ -7,6 +7,7 @@ use Rattle.hlc_csv.specs.TextEnd.{IsClosed}
 use Rattle.hlc_csv.specs.Rows.{Fields, field_of}
 use Rattle.hlc_log_text.specs.declared.bad_log.BadLog.{BadLog}
 use Rattle.hlc_log_text.specs.declared.bad_log.BadLog.TheVariants as bad
+use Rattle.hlc_log_text.specs.declared.log_column.LogColumn.TheVariants as column
 use Rattle.hlc_log_text.specs.declared.question.Line.{Line}
 use Rattle.hlc_log_text.specs.declared.question.LogQuestion.{LogQuestion}
 use Rattle.hlc_log_text.specs.declared.question.LogQuestion.TheVariants as question
@@ -88,24 +89,24 @@ relation_asked fields = of_both (λ first second. Relation first second) (line_i
 
 -- the same where the line of the first event is there
 abbrev pub check_from : ℕ → Fields → Result Asked BadLog
-check_from line fields = ok_or (check_of (Some line) (lines_in (drop 2 fields))) bad.Number
+check_from line fields = ok_or (check_of (Some line) (lines_in (drop 2 fields))) bad.Line
 
 abbrev pub relation_from : ℕ → Fields → Result Asked BadLog
-relation_from first fields = ok_or (of_both (λ first second. Relation first second) (Some first) (line_in fields 2)) bad.Number
+relation_from first fields = ok_or (of_both (λ first second. Relation first second) (Some first) (line_in fields 2)) bad.Line
 
 -- how far the stamps of the node of a name ran ahead, if it may be a name
 abbrev pub drift_asked : List ℕ → Result Asked BadLog
-drift_asked name = if is_name name then Ok (Drift name) else Err bad.Name
+drift_asked name = if is_name name then Ok (Drift name) else Err (bad.Name column.Node)
 
 -- what a record of a word and as many fields as it has asks
 abbrev pub asked_by_word : QuestionWord → Fields → Result Asked BadLog
-asked_by_word word.Explain fields = ok_or (option_map (λ line. Explain line) (line_in fields 1)) bad.Number
-asked_by_word word.Check fields = ok_or (check_asked fields) bad.Number
-asked_by_word word.Relation fields = ok_or (relation_asked fields) bad.Number
-asked_by_word word.Influenced fields = ok_or (option_map (λ line. Influenced line) (line_in fields 1)) bad.Number
+asked_by_word word.Explain fields = ok_or (option_map (λ line. Explain line) (line_in fields 1)) bad.Line
+asked_by_word word.Check fields = ok_or (check_asked fields) bad.Line
+asked_by_word word.Relation fields = ok_or (relation_asked fields) bad.Line
+asked_by_word word.Influenced fields = ok_or (option_map (λ line. Influenced line) (line_in fields 1)) bad.Line
 asked_by_word word.Drift fields = drift_asked (field_of fields 1)
-asked_by_word word.Claimed fields = ok_or (option_map (λ line. Claimed line) (line_in fields 1)) bad.Number
-asked_by_word word.Event fields = ok_or (option_map (λ line. Event line) (line_in fields 1)) bad.Number
+asked_by_word word.Claimed fields = ok_or (option_map (λ line. Claimed line) (line_in fields 1)) bad.Line
+asked_by_word word.Event fields = ok_or (option_map (λ line. Event line) (line_in fields 1)) bad.Line
 
 -- the word is known: then the number of fields is right, and then the numbers or the name
 abbrev pub asked_after_word : Option QuestionWord → Fields → Result Asked BadLog

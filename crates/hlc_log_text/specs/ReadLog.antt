@@ -1,6 +1,6 @@
 -- What the reading of a log leaves.
-use Rattle.std.specs.Prelude.{◌≡◌, ℕ, ◌<◌, ◌≤◌, ◌⊎◌, List, [], ◌∷◌, ◌++◌, Option, Some, None, Ok, length, map}
-use Rattle.hlc_stamp.specs.declared.limits.TheConstants.{MAX_NODES}
+use Rattle.std.specs.Prelude.{◌≡◌, ℕ, ◌<◌, ◌≤◌, ◌⊎◌, List, [], ◌∷◌, ◌++◌, Option, Some, None, Ok, false, length, map}
+use Rattle.hlc_log.specs.declared.log_event.TheConstants.{MAX_LOG_NODES}
 use Rattle.hlc_csv.specs.Records.{AreAllOf, BeginsWith, IsOnly}
 use Rattle.hlc_csv.specs.Rows.{Fields}
 use Rattle.hlc_log.specs.declared.log_event.LogEvent.{LogEvent}
@@ -17,15 +17,16 @@ use Rattle.hlc_log_text.specs.declared.fault.LogTextFault.TheVariants as fault
 use Rattle.hlc_log_text.specs.declared.log_text.LogText.{LogText}
 use Rattle.hlc_log_text.specs.declared.skipped.Skipped.{Skipped}
 use Rattle.hlc_log_text.specs.declared.partial_log.PartialLog.{PartialLog}
-use Rattle.hlc_log_text.specs.LogItem.{LogItem, event_lines, events_in, item_after}
+use Rattle.hlc_log_text.specs.FaultRule.{leaves_out}
+use Rattle.hlc_log_text.specs.LogItem.{LogItem, bad_lines_in, event_lines, events_in}
 use Rattle.hlc_log_text.specs.LogText.{IsTextOf, node_names}
 use Rattle.hlc_log_text.specs.Skipped.{skipped_in}
-use Rattle.hlc_log_text.specs.PartialLog.{IsBadAfter, IsPartialLog, text_with}
+use Rattle.hlc_log_text.specs.PartialLog.{IsBadAfter, IsPartialLog, SaysAfter, text_with}
 
 -- each of some records says what stands at its place, after those that say what stands before
 abbrev pub SayAfter : LogRules → (before : List LogItem) → List Fields → List LogItem → Type 0
 SayAfter rules before [] [] = Unit {0}
-SayAfter rules before (fields ∷ records) (item ∷ items) = (item_after rules before fields ≡ Ok item) × SayAfter rules (before ++ item ∷ []) records items
+SayAfter rules before (fields ∷ records) (item ∷ items) = SaysAfter rules before fields item × SayAfter rules (before ++ item ∷ []) records items
 SayAfter rules before _ _ = ⊥
 
 -- so it is of the records with which a log begins
@@ -34,13 +35,14 @@ SayItems rules records items = SayAfter rules [] records items
 
 -- they do, and their events name no more nodes than there may be
 abbrev pub MakeItems : LogRules → List Fields → List LogItem → Type 0
-MakeItems rules records items = SayItems rules records items × (length (node_names (events_in items)) ≤ MAX_NODES)
+MakeItems rules records items = SayItems rules records items × (length (node_names (events_in items)) ≤ MAX_LOG_NODES)
 
--- after records that say these items the next one is bad for this reason: it is the last, and nothing closes its last field; or it isn't that, and
--- says nothing, or names one node too many
+-- after records that say these items the next one ends the reading for this reason: it is the last, and nothing closes its last field; or it isn't
+-- that, and says nothing, or names one node too many, and the rules don't leave it out
 abbrev pub IsBadNext : LogRules → (bytes : Option (List ℕ)) → List Fields → List LogItem → Fields → BadLog → Type 0
 IsBadNext rules bytes records items next why =
-    (EndOpen bytes (records ++ next ∷ []) × (why ≡ bad.Quote)) ⊎ (DoNotEndOpen bytes (records ++ next ∷ []) × IsBadAfter rules items next why)
+    (EndOpen bytes (records ++ next ∷ []) × (why ≡ bad.Quote))
+    ⊎ (DoNotEndOpen bytes (records ++ next ∷ []) × IsBadAfter rules items next why × (leaves_out rules.faults why ≡ false))
 
 -- if bytes are known, events have the lines of the records that tell of them
 abbrev pub AreOnLines : Option (List ℕ) → List LogItem → List LogEvent → Type 0
@@ -51,6 +53,11 @@ AreOnLines (Some bytes) items events = map (λ e. e.line) events ≡ event_lines
 abbrev pub AreSkippedOnLines : Option (List ℕ) → List LogItem → Option Skipped → Type 0
 AreSkippedOnLines None items skipped = Unit {0}
 AreSkippedOnLines (Some bytes) items skipped = skipped ≡ skipped_in items (told_lines bytes)
+
+-- if bytes are known, bad records that were left out are told with their lines
+abbrev pub AreLeftOutOnLines : Option (List ℕ) → List LogItem → List BadLine → Type 0
+AreLeftOutOnLines None items left_out = Unit {0}
+AreLeftOutOnLines (Some bytes) items left_out = left_out ≡ bad_lines_in items (told_lines bytes)
 
 -- if bytes are known, this is the line of the record at a place
 abbrev pub IsOnLine : Option (List ℕ) → (place : ℕ) → ℕ → Type 0
@@ -70,6 +77,7 @@ pub record IsReadInto (rules : LogRules) (most : ℕ) (bytes : Option (List ℕ)
   pub held : IsPartialLog items lines partial
   pub on_lines : AreOnLines bytes items partial.log.events
   pub skipped : AreSkippedOnLines bytes items partial.skipped
+  pub left_out : AreLeftOutOnLines bytes items partial.left_out.items
 
 -- these bytes are records, so many at most, whose quotation marks are closed, and the text has their events and their questions,
 -- and knows which were left out
@@ -84,12 +92,14 @@ pub record IsReadWhole (rules : LogRules) (most : ℕ) (bytes : Option (List ℕ
   pub held : IsTextOf items text
   pub on_lines : AreOnLines bytes items text.log.events
   pub skipped : AreSkippedOnLines bytes items text.skipped
+  pub left_out : AreLeftOutOnLines bytes items text.left_out.items
 
 -- so it is of what was read, with these names of nodes
 abbrev pub IsTextRead : LogRules → (most : ℕ) → (bytes : Option (List ℕ)) → PartialLog → (nodes : List (List ℕ)) → Type 0
 IsTextRead rules most bytes partial nodes = IsReadWhole rules most bytes (text_with nodes partial)
 
--- the bytes begin with good records, fewer than the most, and then a bad one, on its line, which comes after as many others at least
+-- the bytes begin with records that say something or are left out, fewer than the most, and then one that ends the reading, on its line, which comes
+-- after as many others at least
 pub record IsReadUpToBad (rules : LogRules) (most : ℕ) (bytes : Option (List ℕ)) (b : BadLine) : Type 0 where
   pub records : List Fields
   pub items : List LogItem
@@ -101,7 +111,7 @@ pub record IsReadUpToBad (rules : LogRules) (most : ℕ) (bytes : Option (List �
   pub on_line : IsOnLine bytes (length records) b.line
   pub late : length records < b.line
 
--- the bytes begin with the most records, which are good, and one more
+-- the bytes begin with the most records, which say something or are left out, and one more
 pub record HasTooMany (rules : LogRules) (most : ℕ) (bytes : Option (List ℕ)) : Type 0 where
   pub records : List Fields
   pub items : List LogItem

@@ -15,13 +15,15 @@ pub enum BadLog {
     Fields,
     /// Its reading is there and no number from 1 to `MAX_READING`, or it has no stamp in the form of the log, of which a receive may leave all
     /// fields empty, or it tells of a restart and `c` of its stamp is above `MAX_FLOOR_C`, or of a receive whose carried stamp is there, but
-    /// not in the form of the log or without room above its `c`, or isn't there, though the receive names its sender in place of its message;
-    /// or a line in its question is no number.
-    Number,
+    /// not in the form of the log or without room above its `c`, or isn't there, though the receive names its sender in place of its message.
+    /// The column is the first such in this order; of a stamp that is two fields, that of `l`, unless `l` is a number.
+    Number(LogColumn),
+    /// A line in its question is no number.
+    Line,
     /// The name of its node or of its message is empty, or longer than `MAX_NAME_LEN`, or that of a sender in place of a message is. In a log with
-    /// a column `from` the message of a send may be empty, and so may that of a receive that names its sender there.
-    Name,
-    /// It names one more node than `MAX_NODES`.
+    /// a column `from` the message of a send may be empty, and so may that of a receive that names its sender there. The column is the first such.
+    Name(LogColumn),
+    /// It names one more node than `MAX_LOG_NODES`.
     Node,
     /// Its last field begins with a quotation mark that nothing closes, so that it took in the rest of the log. Then no other reason is told.
     Quote,
@@ -39,6 +41,7 @@ pub struct BadLine {
 impl BadLog {
     ghost use Rattle.std.specs.Prelude.{◌≡◌};
     ghost use Rattle.hlc_log_text.specs.BadLog.{bad_log_column, bad_log_word};
+    ghost use Rattle.hlc_log_text.specs.FaultRule.{is_of_record};
 
     /// The word of the row that answers it.
     pub fn word(self) -> &'static [u8]
@@ -49,10 +52,26 @@ impl BadLog {
             BadLog::Header => b"header",
             BadLog::Missing(_) => b"field",
             BadLog::Fields => b"fields",
-            BadLog::Number => b"number",
-            BadLog::Name => b"name",
+            BadLog::Number(_) | BadLog::Line => b"number",
+            BadLog::Name(_) => b"name",
             BadLog::Node => b"node",
             BadLog::Quote => b"quote",
+        }
+    }
+
+    // Whether a record that is bad for this reason can be left out: what stands after it is read as it would be without it.
+    pub(crate) fn is_of_record(self) -> bool
+        ensures { result ≡ is_of_record self }
+    {
+        match self {
+            BadLog::Header | BadLog::Quote => false,
+            BadLog::Word
+            | BadLog::Missing(_)
+            | BadLog::Fields
+            | BadLog::Number(_)
+            | BadLog::Line
+            | BadLog::Name(_)
+            | BadLog::Node => true,
         }
     }
 
@@ -61,8 +80,13 @@ impl BadLog {
         ensures { result ≡ bad_log_column self }
     {
         match self {
-            BadLog::Missing(column) => Some(column),
-            _ => None,
+            BadLog::Missing(column) | BadLog::Number(column) | BadLog::Name(column) => Some(column),
+            BadLog::Word
+            | BadLog::Header
+            | BadLog::Fields
+            | BadLog::Line
+            | BadLog::Node
+            | BadLog::Quote => None,
         }
     }
 }

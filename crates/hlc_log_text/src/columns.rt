@@ -6,6 +6,7 @@ ghost use Rattle.hlc_csv.specs.Rows.{field_of};
 ghost use Rattle.hlc_log_text.specs.Columns.{begins_as_header, column_in, columns_by, label_part, names_sender};
 ghost use Rattle.hlc_log_text.specs.LogColumn.{column_name};
 
+use crate::bad_column::bad_of_carried;
 use crate::log_column::LogColumn;
 use crate::log_word::LogWord;
 use crate::record_syntax::RecordSyntax;
@@ -251,28 +252,31 @@ impl Columns {
         Some(field(fields, self.from))
     }
 
-    // What a record that begins with the word of an event tells of the stamp that a message carried: `None` if it is badly written.
+    // What a record that begins with the word of an event tells of the stamp that a message carried, or the column where that is badly written.
     pub(crate) fn carried(
         self,
         form: StampForm,
         word: LogWord,
         fields: &ByteRecord,
-    ) -> Option<Option<Stamp>>
+    ) -> Result<Option<Stamp>, LogColumn>
         ensures { result ≡ carried_for form self word (fields_of fields.now) }
     {
         if word != LogWord::Receive {
-            return Some(None);
+            return Ok(None);
         }
         let first = self.first_carried(form, fields);
         let second = self.second_carried(form, fields);
         let is_needed = names_sender(self.from(fields), field(fields, self.message));
         if first.is_empty() && second.is_empty() {
-            return if is_needed { None } else { Some(None) };
+            return if is_needed {
+                Err(bad_of_carried(form, first))
+            } else {
+                Ok(None)
+            };
         }
-        let stamp = form.stamp_of(first, second)?;
-        if stamp.c >= MAX_FLOOR_C {
-            return None;
+        match form.stamp_of(first, second) {
+            Some(stamp) if stamp.c < MAX_FLOOR_C => Ok(Some(stamp)),
+            _ => Err(bad_of_carried(form, first)),
         }
-        Some(Some(stamp))
     }
 }

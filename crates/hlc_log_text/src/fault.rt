@@ -8,7 +8,7 @@ use thiserror::Error;
 /// Why a log could not be read.
 #[derive(Clone, Copy, Debug, PartialEq, Eq, Drop, Error)]
 pub enum LogTextFault {
-    /// A record is bad: the first such.
+    /// A record is bad: the first such that isn't left out.
     #[error("a record is bad")]
     Bad(BadLine),
     /// The reader failed.

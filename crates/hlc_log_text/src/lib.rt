@@ -31,19 +31,23 @@
 //!
 //! A record of the one field `skipped` stands for something that was left out of the log. It tells of nothing, and is counted.
 //!
+//! The first record that is bad ends the reading. If the rules leave bad records out, it goes on as if they weren't there, and tells their lines
+//! and why they are bad; but a bad header ends it always, and so does a quotation mark that nothing closes.
+//!
 //! Records that ask questions may stand anywhere among them: `explain,LINE`, `check,LINE` and any number of lines after it,
 //! `relation,LINE,LINE`, `influenced,LINE`, `drift,NODE`, `claimed,LINE` or `event,LINE`. A question is asked of the whole log, so
 //! logs with questions can be put one after another as well.
 //!
 //! - `read_log` reads a log to its end: a `LogText` with its events (`hlc_log`), the nodes' names, the labels and the questions, and which
-//!   records were left out (`Skipped`).
+//!   records were left out, before it was read (`Skipped`) or as bad ones (`BadLine`).
 //! - `Names` has names in the order in which they were first mentioned, and gives the name of a number; `node_name` gives that of a node.
 //! - `Labels` gives the label of an event by its place; only labels that are there take memory.
 //! - `LogQuestion` is what a record can ask, and `question_of` reads one from a text of its own.
 //! - `LogColumn` is a column, by its name, and `LogWord` the word of an event.
 //! - `LogRules` says how a log is read: the syntax of its records, the form of its stamps, the units of its readings and of `l`, within how much
-//!   of the clocks its readings are known, what the clocks do at receives (`hlc_causality`), and what becomes of a receive of a message that
-//!   nobody sends. Reading a record takes the first four.
+//!   of the clocks its readings are known, what the clocks do at receives (`hlc_causality`), what becomes of a receive of a message that
+//!   nobody sends, which send a receive is of if its message is sent again, and what becomes of bad records (`FaultRule`). Reading a record takes
+//!   the first four and the last.
 //! - `Units` says which unit of time readings have and which one `l` has (`TimeUnit`), where they aren't the same, as in a log whose stamps are
 //!   uhlc's and whose readings are in milliseconds. A reading is then taken as so many whole units of `l`, and one at least.
 //! - `StampForm` says how stamps are written: a hybrid logical clock's stamp has two parts, `l` and `c`, and logs show them in two fields,
@@ -82,9 +86,11 @@
 //! ```
 #![tactic(auto)]
 
+mod bad_column;
 mod bad_log;
 mod columns;
 mod fault;
+mod fault_rule;
 mod hints;
 mod labels;
 pub mod laws;
@@ -111,6 +117,7 @@ mod units;
 
 pub use bad_log::{BadLine, BadLog};
 pub use fault::LogTextFault;
+pub use fault_rule::FaultRule;
 pub use labels::Labels;
 pub use log_column::LogColumn;
 pub use log_rules::LogRules;

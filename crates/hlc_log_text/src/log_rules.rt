@@ -1,9 +1,11 @@
 ghost use Rattle.std.specs.Prelude.{◌≡◌};
 
+use crate::fault_rule::FaultRule;
 use crate::record_syntax::RecordSyntax;
 use crate::stamp_form::StampForm;
 use crate::units::Units;
 use hlc_causality::Receives;
+use hlc_log::Resent;
 
 /// How the records of a log are read.
 #[derive(Clone, Copy, Debug, PartialEq, Eq)]
@@ -20,12 +22,17 @@ pub struct LogRules {
     pub receives: Receives,
     /// Whether a receive of a message that nobody sends is taken as a local event, unless it tells what that carried.
     pub unsent_local: bool,
+    /// Which send of a message that is sent again a receive is of. If it isn't said, no log in which one is can be opened.
+    pub resent: Option<Resent>,
+    /// What becomes of records that are bad.
+    pub faults: FaultRule,
 }
 
 impl LogRules {
     ghost use Rattle.hlc_log_text.specs.LogRules.{exact_rules};
 
-    /// Records of CSV, stamps in this form, exact readings in the unit of `l`, receives that tick, and none of a message that nobody sends.
+    /// Records of CSV, stamps in this form, exact readings in the unit of `l`, receives that tick, none of a message that nobody sends, none
+    /// that is sent again, and no bad record.
     pub fn exact(form: StampForm) -> LogRules
         ensures { result ≡ exact_rules form }
     {
@@ -36,6 +43,8 @@ impl LogRules {
             tolerance: 0,
             receives: Receives::Tick,
             unsent_local: false,
+            resent: None,
+            faults: FaultRule::First,
         }
     }
 }

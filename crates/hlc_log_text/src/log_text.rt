@@ -1,3 +1,4 @@
+use crate::bad_log::BadLine;
 use crate::labels::Labels;
 use crate::names::Names;
 use crate::question::LogQuestion;
@@ -18,6 +19,8 @@ pub struct LogText {
     pub labels: Labels,
     /// What is asked of the whole log, in the order of the records.
     pub questions: Vec<LogQuestion>,
-    /// Which records were left out, if some were.
+    /// Which records were left out before the log was read, if some were.
     pub skipped: Option<Skipped>,
+    /// The records that are bad and were left out, in their order.
+    pub left_out: Vec<BadLine>,
 }

@@ -101,11 +101,9 @@ impl NameSet {
     }
 
     // The names, as they are numbered.
-    pub(crate) fn into_names(self) -> Result<Names, AllocError>
-        ensures { IfOk result (λ names. names ≡ self) }
+    pub(crate) fn into_names(self) -> Names
+        ensures { result ≡ self }
     {
-        let alloc = *self.names.allocator();
-        let names = self.names.into_iter().collect(alloc)?;
-        Ok(Names { names })
+        Names { names: self.names }
     }
 }

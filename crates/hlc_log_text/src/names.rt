@@ -4,12 +4,13 @@ ghost use Rattle.std.specs.Str.{bytes_eq};
 ghost use Rattle.hlc_log_text.specs.Names.{EachNameOnce};
 
 use hlc_pages::Bytes;
+use indexmap::IndexSet;
 use std::marker::Model;
 
 /// The names of a log's nodes, numbered from 0 in the order in which they were first mentioned; seen as the list of them.
 #[derive(Drop)]
 pub struct Names {
-    pub(crate) names: Vec<Bytes<'static>>,
+    pub(crate) names: IndexSet<Bytes<'static>>,
 }
 
 impl Model for Names {
@@ -18,33 +19,26 @@ impl Model for Names {
 
     ghost Value = { List (List ℕ) };
 
-    ghost view = { λ n. n.names.items };
+    ghost view = { λ n. n.names.keys };
 
-    ghost invariant = { λ n. EachNameOnce n.names.items };
-}
-
-// The place of the first of some names that is this one.
-fn place_of(names: &[Bytes<'static>], name: &[u8]) -> Option<usize>
-    ensures { result ≡ position (bytes_eq name.now) names.now }
-{
-    names.iter().position(|known| **known == *name)
+    ghost invariant = { λ n. EachNameOnce n.names.keys };
 }
 
 impl Names {
-    /// The number of a name, if it was mentioned. The names are looked through: a log has few nodes.
+    /// The number of a name, if it was mentioned. It takes one look-up, however many names there are.
     pub fn number(&self, name: &[u8]) -> Option<usize>
         ensures number { result ≡ position (bytes_eq name.now) self.now }
         ensures name { IfSome result (λ number. slice_get self.now number ≡ Some name.now) }
         ensures known { is_some result ≡ list_any (bytes_eq name.now) self.now }
     {
-        place_of(&self.names, name)
+        self.names.get_index_of(&Bytes::borrowed(name))
     }
 
     /// The name of a number, if there is one.
     pub fn name(&self, number: usize) -> Option<&[u8]>
         ensures { option_map (λ name. name.now) result ≡ slice_get self.now number }
     {
-        let name = self.names.get(number)?;
+        let name = self.names.get_index(number)?;
         Some(name)
     }
 

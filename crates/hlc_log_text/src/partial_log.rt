@@ -9,11 +9,12 @@ ghost use Rattle.hlc_log_text.specs.LogText.{apart_count, node_of, unnamed_in};
 ghost use Rattle.hlc_log_text.specs.LogWord.{log_word_of};
 ghost use Rattle.hlc_log_text.specs.Names.{with_name};
 ghost use Rattle.hlc_log_text.specs.NamedEvent.{carrying, if_sender, told_by};
-ghost use Rattle.hlc_log_text.specs.PartialLog.{AddsNext, AsksNext, HasFewNames, HasPlace, IsFinished, IsNextLine, IsPartialLog, NumbersNode, SkipsNext, TakesNext, TakesOr, TakesSaid, TellsKind, apart_log, nodes_named, text_with, told_line};
+ghost use Rattle.hlc_log_text.specs.PartialLog.{AddsNext, AsksNext, HasFewNames, HasPlace, IsFinished, IsNextLine, IsPartialLog, LeavesNext, NumbersNode, SkipsNext, TakesNext, TakesOr, TakesSaid, TellsKind, apart_log, nodes_named, text_with, told_line};
 ghost use Rattle.hlc_log_text.specs.Question.{asked_of, plain_asked};
 
 use crate::bad_log::{BadLine, BadLog};
 use crate::columns::{Columns, begins_as_header, columns_by, names_sender};
+use crate::fault_rule::FaultRule;
 use crate::hints::Hints;
 use crate::labels::Labels;
 use crate::log_rules::LogRules;
@@ -29,8 +30,8 @@ use crate::skipped::Skipped;
 use crate::stamp_form::StampForm;
 use csv::ByteRecord;
 use hlc_csv::{FoundRecord, field};
-use hlc_log::{Log, LogEvent, LogKind, MessageId, tell_apart};
-use hlc_stamp::{EventId, MAX_NODES, NodeId, Stamp};
+use hlc_log::{Log, LogEvent, LogKind, MAX_LOG_NODES, MessageId, tell_apart};
+use hlc_stamp::{EventId, NodeId, Stamp};
 use std::alloc::{AllocError, Global};
 use std::mem;
 
@@ -49,6 +50,7 @@ pub(crate) struct PartialLog {
     columns: Option<Columns>,
     hints: Hints,
     skipped: Option<Skipped>,
+    left_out: Vec<BadLine>,
 }
 
 // The names of a record, and its label.
@@ -85,7 +87,7 @@ fn number_node(
     hints: &mut Hints,
     name: &[u8],
 ) -> Result<Option<NodeId>, AllocError>
-    requires { length nodes.old ≤ MAX_NODES }
+    requires { length nodes.old ≤ MAX_LOG_NODES }
     ensures { IfOk result (NumbersNode nodes.old nodes.new name.now) }
 {
     let hint = hints.node(name);
@@ -101,12 +103,12 @@ fn number_node(
 
 // The same, by a look-up.
 fn look_up_node(nodes: &mut NameSet, name: &[u8]) -> Result<Option<NodeId>, AllocError>
-    requires { length nodes.old ≤ MAX_NODES }
+    requires { length nodes.old ≤ MAX_LOG_NODES }
     ensures { IfOk result (NumbersNode nodes.old nodes.new name.now) }
 {
     let number = match nodes.number(name) {
         Some(number) => number,
-        None if nodes.len() == MAX_NODES as usize => return Ok(None),
+        None if nodes.len() == MAX_LOG_NODES as usize => return Ok(None),
         None => nodes.mention(name)?,
     };
     Ok(Some(NodeId(number as u16)))
@@ -146,7 +148,7 @@ fn sender<'a>(word: LogWord, from: Option<&'a [u8]>, message: &[u8]) -> Option<&
 
 // The node of a name, if it is one of a log's.
 fn node_of(nodes: &NameSet, name: Option<&[u8]>) -> Option<NodeId>
-    requires { length nodes.now ≤ MAX_NODES }
+    requires { length nodes.now ≤ MAX_LOG_NODES }
     ensures { result ≡ node_of nodes.now (option_map (λ name. name.now) name.entry) }
 {
     let number = nodes.number(name?)?;
@@ -160,7 +162,7 @@ fn nodes_named(
     senders: &Labels,
     count: u32,
 ) -> Result<Vec<Option<NodeId>>, AllocError>
-    requires { length nodes.now ≤ MAX_NODES }
+    requires { length nodes.now ≤ MAX_LOG_NODES }
     ensures { IfOk result (λ named. named.items ≡ nodes_named nodes.now senders.now count) }
 {
     let name = |place: u32| node_of(nodes, senders.get(EventId(place)));
@@ -183,10 +185,11 @@ impl PartialLog {
             columns: None,
             hints: Hints::new(),
             skipped: None,
+            left_out: Vec::new(alloc),
         }
     }
 
-    // Takes in the next record, or tells why it is bad. Its fields may be put into other places, in `arranged`.
+    // Takes in the next record, or tells why it is bad, unless the rules leave it out then. Its fields may be put into other places, in `arranged`.
     pub(crate) fn take(
         &mut self,
         rules: LogRules,
@@ -205,9 +208,21 @@ impl PartialLog {
             }));
         }
         match self.take_at(rules, fields, arranged, line)? {
-            Some(why) => Ok(Some(BadLine { line, why })),
+            Some(why) => self.leave_out(rules.faults, BadLine { line, why }),
             None => Ok(None),
         }
+    }
+
+    // Leaves a bad record out, if the rule says so, or hands it back.
+    fn leave_out(&mut self, rule: FaultRule, bad: BadLine) -> Result<Option<BadLine>, AllocError>
+        ensures { IfOk result (LeavesNext rule self.old bad self.new) }
+    {
+        if !rule.leaves_out(bad.why) {
+            return Ok(Some(bad));
+        }
+        self.left_out.push(bad)?;
+        self.line = bad.line;
+        Ok(None)
     }
 
     // Takes in the next record, which begins on this line, or tells why it is bad.
@@ -250,7 +265,7 @@ impl PartialLog {
     {
         let Some(columns) = columns_by(rules.syntax, self.columns) else {
             let beside = Beside {
-                carried: Some(None),
+                carried: Ok(None),
                 from: None,
             };
             return self.take_event(rules, word, fields, beside, line);
@@ -457,7 +472,7 @@ impl PartialLog {
         self.tell_apart()?;
         let alloc = *self.questions.allocator();
         let nodes = mem::replace(&mut self.nodes, NameSet::new(alloc));
-        nodes.into_names()
+        Ok(nodes.into_names())
     }
 
     // What was read, with the names of its nodes. Nothing of a log tells the name of a message, so the memory of these names is given back.
@@ -471,6 +486,7 @@ impl PartialLog {
             labels,
             questions,
             skipped,
+            left_out,
             ..
         } = self;
         LogText {
@@ -480,6 +496,7 @@ impl PartialLog {
             labels,
             questions,
             skipped,
+            left_out,
         }
     }
 

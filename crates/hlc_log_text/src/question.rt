@@ -4,6 +4,7 @@ ghost use Rattle.hlc_csv.specs.Number.{number_of};
 ghost use Rattle.hlc_log_text.specs.Question.{asked_by_word, asked_of, check_from, drift_asked, line_in, lines_in, numbers_of, plain_read, relation_from};
 
 use crate::bad_log::BadLog;
+use crate::log_column::LogColumn;
 use crate::question_word::QuestionWord;
 use crate::record_head::may_be_name;
 use csv::ByteRecord;
@@ -79,7 +80,7 @@ fn read_check(
 {
     match read_lines(alloc, fields, 2)? {
         Some(chain) => Ok(Ok(LogQuestion::Check { line, chain })),
-        None => Ok(Err(BadLog::Number)),
+        None => Ok(Err(BadLog::Line)),
     }
 }
 
@@ -89,7 +90,7 @@ fn read_relation(first: Line, fields: &ByteRecord) -> Result<LogQuestion, BadLog
 {
     match line_at(fields, 2) {
         Some(second) => Ok(LogQuestion::Relation { first, second }),
-        None => Err(BadLog::Number),
+        None => Err(BadLog::Line),
     }
 }
 
@@ -98,7 +99,7 @@ fn read_drift(alloc: Global, name: &[u8]) -> Result<Result<LogQuestion, BadLog>,
     ensures { IfOk result (λ read. plain_read read ≡ drift_asked name.now) }
 {
     if !may_be_name(name) {
-        return Ok(Err(BadLog::Name));
+        return Ok(Err(BadLog::Name(LogColumn::Node)));
     }
     let name = Bytes::from_slice(alloc, name)?;
     Ok(Ok(LogQuestion::Drift(name)))
@@ -114,7 +115,7 @@ fn make_question(
 {
     match (word, line_at(fields, 1)) {
         (QuestionWord::Drift, _) => read_drift(alloc, field(fields, 1)),
-        (_, None) => Ok(Err(BadLog::Number)),
+        (_, None) => Ok(Err(BadLog::Line)),
         (QuestionWord::Explain, Some(line)) => Ok(Ok(LogQuestion::Explain(line))),
         (QuestionWord::Check, Some(line)) => read_check(alloc, line, fields),
         (QuestionWord::Relation, Some(line)) => Ok(read_relation(line, fields)),

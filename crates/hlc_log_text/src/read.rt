@@ -95,12 +95,13 @@ pub fn read_log<R: Read + Drop>(
     most: u32,
 ) -> Result<LogText, LogTextFault>
     requires { most ≤ MAX_CAPACITY }
-    // The bytes are records, at most so many, each tells of an event or asks a question, but for a header, and their quotation marks are closed.
+    // The bytes are records, at most so many, each tells of an event or asks a question, but for a header and those that are left out, and their
+    // quotation marks are closed.
     ensures log { IfOk result (IsReadWhole rules most (R.remaining reader)) }
     ensures numbered { IfOk result (λ text. All (IsNumbered text.messages) text.log.events) }
     ensures in_range { IfOk result (λ text. All IsInRange text.log.events) }
 
-    // A record that is bad is the first such; one that is too many comes after the most good ones.
+    // A record that is bad is the first such that isn't left out; one that is too many comes after the most that aren't.
     ensures fault { IfErr result (ExplainsFault rules most (R.remaining reader)) }
 {
     let mut input = RecordReader::new(alloc, reader)?;

@@ -1,10 +1,13 @@
 ghost use Rattle.std.specs.Prelude.{◌≡◌, option_map};
 ghost use Rattle.csv.specs.Records.{fields_of};
-ghost use Rattle.hlc_log_text.specs.NamedEvent.{assumed_reading, carried_head_of, has_good_names, head_of, head_with, if_reading, is_name, is_received_name, is_sent_name, label_of, message_place, reading_of, reading_with, restart_head, stamp_told, tolerated};
+ghost use Rattle.hlc_log_text.specs.NamedEvent.{assumed_reading, before_carried, carried_head_of, has_good_names, head_of, head_with, if_reading, is_bad_reading, is_name, is_received_name, is_sent_name, label_of, message_place, name_column, number_column, reading_of, reading_with, restart_head, stamp_told, tolerated};
 ghost use Rattle.hlc_log_text.specs.LogWord.{has_fields_of};
 ghost use Rattle.hlc_log_text.specs.Units.{in_unit_of_l};
 
+use crate::bad_column::bad_of_stamp;
 use crate::bad_log::BadLog;
+use crate::columns::names_sender;
+use crate::log_column::LogColumn;
 use crate::log_rules::LogRules;
 use crate::log_word::LogWord;
 use crate::stamp_form::StampForm;
@@ -42,8 +45,8 @@ pub(crate) struct RecordHead {
 // What a record of a log with a header tells beside the fields that have places in a log without one.
 #[derive(Clone, Copy)]
 pub(crate) struct Beside<'a> {
-    // The stamp that its message carried, if it tells that; `None` if that is badly written.
-    pub(crate) carried: Option<Option<Stamp>>,
+    // The stamp that its message carried, if it tells that, or the column where that is badly written.
+    pub(crate) carried: Result<Option<Stamp>, LogColumn>,
     // The field of the column `from`, if there is such a column.
     pub(crate) from: Option<&'a [u8]>,
 }
@@ -230,6 +233,37 @@ pub(crate) fn label(form: StampForm, word: LogWord, fields: &ByteRecord) -> Opti
     fields.get(word.field_count(form))
 }
 
+// Whether a reading is there and badly written.
+fn is_bad_reading(rules: LogRules, field: &[u8]) -> bool
+    ensures { result ≡ is_bad_reading rules field.now }
+{
+    !field.is_empty() && reading(rules, field).is_none()
+}
+
+// The column of a record whose numbers aren't there.
+fn number_column(rules: LogRules, fields: &ByteRecord) -> LogColumn
+    ensures { result ≡ number_column rules (fields_of fields.now) }
+{
+    if is_bad_reading(rules, field(fields, READING_PLACE)) {
+        return LogColumn::Reading;
+    }
+    bad_of_stamp(rules.form, field(fields, STAMP_PLACE))
+}
+
+// The column of a record whose names aren't good.
+fn name_column(form: StampForm, from: Option<&[u8]>, fields: &ByteRecord) -> LogColumn
+    ensures { result ≡ name_column form (option_map (λ from. from.now) from.entry) (fields_of fields.now) }
+{
+    if !may_be_name(field(fields, NODE_PLACE)) {
+        return LogColumn::Node;
+    }
+    if names_sender(from, field(fields, message_place(form))) {
+        LogColumn::From
+    } else {
+        LogColumn::Message
+    }
+}
+
 // Reads a record of a word: the number of fields is checked first, then the numbers, then the names.
 fn parse_head(
     rules: LogRules,
@@ -242,11 +276,23 @@ fn parse_head(
     if !fields_are_right(rules.form, word, fields.len()) {
         return Err(BadLog::Fields);
     }
-    let head = make_head(rules, word, fields).ok_or(BadLog::Number)?;
+    let Some(head) = make_head(rules, word, fields) else {
+        return Err(BadLog::Number(number_column(rules, fields)));
+    };
     if !names_are_good(rules.form, word, from, fields) {
-        return Err(BadLog::Name);
+        return Err(BadLog::Name(name_column(rules.form, from, fields)));
     }
     Ok(head)
+}
+
+// The first reason of a record that is bad for this one, and by its carried stamp, which is badly written in a column.
+fn before_carried(why: BadLog, carried: LogColumn) -> BadLog
+    ensures { result ≡ before_carried why carried }
+{
+    match why {
+        BadLog::Fields | BadLog::Number(_) => why,
+        _ => BadLog::Number(carried),
+    }
 }
 
 // The same, with what the record tells of a carried stamp, if that is well written. It is a number like the others.
@@ -259,9 +305,9 @@ pub(crate) fn parse_carrying(
     ensures { result ≡ carried_head_of rules word (option_map (λ from. from.now) beside.entry.from) (fields_of fields.now) beside.entry.carried }
 {
     match (parse_head(rules, word, beside.from, fields), beside.carried) {
-        (Ok(head), Some(carried)) => Ok((head, carried)),
-        (Err(why), Some(_)) => Err(why),
-        (Err(BadLog::Fields), None) => Err(BadLog::Fields),
-        (_, None) => Err(BadLog::Number),
+        (Ok(head), Ok(carried)) => Ok((head, carried)),
+        (Err(why), Ok(_)) => Err(why),
+        (Ok(_), Err(column)) => Err(BadLog::Number(column)),
+        (Err(why), Err(column)) => Err(before_carried(why, column)),
     }
 }

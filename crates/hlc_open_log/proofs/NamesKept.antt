@@ -1,14 +1,16 @@
--- Events are of nodes that have names, whatever their receives are taken as, and whatever stamps they are given.
-use Rattle.std.proofs.Common.{◌≡◌, ◌<◌, Bool, true, false, ℕ, List, arith, length, refl}
+-- Events are of nodes that have names, whichever messages are told apart, whatever their receives are taken as, and whatever stamps they are given.
+use Rattle.std.proofs.Common.{◌≡◌, ◌<◌, Bool, true, false, ℕ, List, Option, None, Some, arith, length, refl}
 use Rattle.std.specs.Prelude.{if◌then◌else◌}
 use Rattle.std.proofs.lemmas.List.Elements.{All-from_get_or, All-get_or, All-map, All-weaker}
 use Rattle.hlc_log.specs.Events.{no_event}
 use Rattle.hlc_log.specs.Unsent.{is_unsent, taken_event, taken_kind, with_unsent}
 use Rattle.hlc_log.specs.declared.log_event.LogEvent.{LogEvent}
+use Rattle.hlc_log.specs.declared.resent.Resent.{Resent}
+use Rattle.hlc_log.proofs.ResentLogs.{resent_nodes}
 use Rattle.hlc_log.specs.declared.log_event.LogKind.{LogKind}
 use Rattle.hlc_log_report.specs.InOrder.{AreFilled, AreOfNodes}
 use Rattle.hlc_log_report.proofs.Filled.{filled_node}
-use Rattle.hlc_open_log.specs.Opened.{HaveNames}
+use Rattle.hlc_open_log.specs.Opened.{HaveNames, resent_apart}
 
 either_node : (test : Bool) (e : LogEvent) (kind : LogKind) → (if test then record e { kind = kind } else e).node ≡ e.node
 either_node true e kind = refl
@@ -23,6 +25,15 @@ nodes_kept as_local events nodes of_nodes =
 pub names_kept : (as_local : Bool) (events : List LogEvent) (nodes : List (List ℕ)) → HaveNames events nodes
     → HaveNames (with_unsent as_local events) nodes
 names_kept as_local events nodes named = nodes_kept as_local events (length nodes) named
+
+pub nodes_apart : (resent : Option Resent) (messages : ℕ) (events : List LogEvent) (nodes : ℕ) → AreOfNodes nodes events
+    → AreOfNodes nodes (resent_apart resent messages events)
+nodes_apart None messages events nodes of_nodes = of_nodes
+nodes_apart (Some resent) messages events nodes of_nodes = resent_nodes resent messages events nodes of_nodes
+
+pub names_apart : (resent : Option Resent) (messages : ℕ) (events : List LogEvent) (nodes : List (List ℕ)) → HaveNames events nodes
+    → HaveNames (resent_apart resent messages events) nodes
+names_apart resent messages events nodes named = nodes_apart resent messages events (length nodes) named
 
 pub names_filled : (events filled : List LogEvent) (nodes : List (List ℕ)) → AreFilled events filled → HaveNames events nodes → HaveNames filled nodes
 names_filled events filled nodes are named =

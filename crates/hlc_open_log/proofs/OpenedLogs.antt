@@ -11,15 +11,15 @@ use Rattle.hlc_log_text.specs.ReadLog.{IsReadWhole}
 use Rattle.hlc_log_text.specs.declared.log_rules.LogRules.{LogRules}
 use Rattle.hlc_log_text.specs.declared.log_text.LogText.{LogText}
 use Rattle.hlc_log_text.proofs.NamedNodes.{read_names}
-use Rattle.hlc_open_log.specs.Opened.{HaveNames, IsOpen, IsOpenedOf, IsSoundText, OpenedLog, opened_events}
+use Rattle.hlc_open_log.specs.Opened.{HaveNames, IsOpen, IsOpenedOf, IsSoundText, OpenedLog, opened_events, resent_apart}
 use Rattle.hlc_open_log.specs.Unopened.{ExplainsOpenFault, HasNoOrder, TellsDisorder, bad_text, order_fault_place, order_reason}
 use Rattle.hlc_open_log.specs.declared.bad_input.BadInput.{BadInput}
 use Rattle.hlc_open_log.specs.declared.bad_input.BadReason.{BadReason}
 use Rattle.hlc_open_log.specs.declared.fault.OpenFault.{OpenFault}
 use Rattle.hlc_open_log.specs.declared.fault.OpenFault.TheVariants as fault
 use Rattle.hlc_open_log.proofs.FewMessages.{few_messages}
-use Rattle.hlc_open_log.proofs.LinesKept.{rise_filled, rise_kept}
-use Rattle.hlc_open_log.proofs.NamesKept.{names_filled, names_kept}
+use Rattle.hlc_open_log.proofs.LinesKept.{rise_apart, rise_filled, rise_kept}
+use Rattle.hlc_open_log.proofs.NamesKept.{names_apart, names_filled, names_kept}
 
 -- a log that was read suffices to open it
 pub sound_text : (rules : LogRules) (most : ℕ) (bytes : Option (List ℕ)) (text : LogText) → most ≤ MAX_CAPACITY → IsReadWhole rules most bytes text
@@ -37,20 +37,22 @@ sound_text rules most bytes text few read numbered in_range = record {
 pub is_open : (rules : LogRules) (text : LogText) (opened : OpenedLog) → IsSoundText text → IsOpenedOf rules text opened
     → opened.log.nodes ≡ length opened.nodes → IsOpen opened
 is_open rules text opened sound is nodes =
-    let events = text.log.events in
+    let events = resent_apart rules.resent text.messages text.log.events in
+    let rise = rise_apart rules.resent text.messages text.log.events sound.rise in
+    let named = names_apart rules.resent text.messages text.log.events text.nodes sound.named in
     let filled = is.ordered.filled in
     let names = λ (nodes : List (List ℕ)). HaveNames opened.log.events nodes in
     record {
       ordered = is.ordered.in_order;
       nodes_are = nodes;
-      rise = rise_filled _ opened.log.events filled (rise_kept rules.unsent_local events sound.rise);
+      rise = rise_filled _ opened.log.events filled (rise_kept rules.unsent_local events rise);
       few = rw is.nodes sound.few;
-      named = subst names (sym is.nodes) (names_filled _ opened.log.events text.nodes filled (names_kept rules.unsent_local events text.nodes sound.named));
+      named = subst names (sym is.nodes) (names_filled _ opened.log.events text.nodes filled (names_kept rules.unsent_local events text.nodes named));
     }
 
 -- a fault of its order explains why a log that was read isn't opened
 pub explained : (rules : LogRules) (most : ℕ) (bytes : Option (List ℕ)) (text : LogText) → IsReadWhole rules most bytes text
-    → (f : OpenFault) → TellsDisorder (opened_events rules text.log.events) f → ExplainsOpenFault rules most bytes f
+    → (f : OpenFault) → TellsDisorder (opened_events rules text.messages text.log.events) f → ExplainsOpenFault rules most bytes f
 explained rules most bytes text read (fault.Bad b) none = inr (text, read, none)
 explained rules most bytes text read fault.Read none = absurd none
 explained rules most bytes text read fault.TooLong none = absurd none

@@ -1,26 +1,33 @@
 -- A log that was opened.
 use Rattle.std.specs.Prelude.{◌≡◌, ℕ, ◌*◌, ◌<◌, ◌≤◌, All, AllPairs, List, Option, Some, None, if◌then◌else◌, length}
-use Rattle.hlc_stamp.specs.declared.limits.TheConstants.{MAX_CAPACITY, MAX_NODES}
+use Rattle.hlc_stamp.specs.declared.limits.TheConstants.{MAX_CAPACITY}
+use Rattle.hlc_log.specs.declared.log_event.TheConstants.{MAX_LOG_NODES}
 use Rattle.hlc_log.specs.Events.{IsInRange, IsNumbered}
+use Rattle.hlc_log.specs.Resent.{resent_count, with_resent}
 use Rattle.hlc_log.specs.Unsent.{unsent_count, with_unsent}
 use Rattle.hlc_log.specs.declared.log_event.LogEvent.{LogEvent}
+use Rattle.hlc_log.specs.declared.resent.Resent.{Resent}
 use Rattle.hlc_log_report.specs.InOrder.{AreFilled, IsInOrder, LogInOrder}
 use Rattle.hlc_log_text.specs.ReadLog.{IsReadWhole}
 use Rattle.hlc_log_text.specs.StampForms.{greatest_c}
+use Rattle.hlc_log_text.specs.declared.bad_log.BadLine.{BadLine}
 use Rattle.hlc_log_text.specs.declared.log_rules.LogRules.{LogRules}
 use Rattle.hlc_log_text.specs.declared.log_text.LogText.{LogText}
 use Rattle.hlc_log_text.specs.declared.question.LogQuestion.{LogQuestion}
 use Rattle.hlc_log_text.specs.declared.skipped.Skipped.{Skipped}
 
 -- a log in a causal order, with the names of its nodes, its labels, what is asked in it, how many of its receives were taken as local events, if they
--- were to be, which records were left out of it, if some were, and the greatest c that the form of its stamps writes
+-- were to be, how many of its sends sent a message again, if they might, which records were left out of it, if some were, those that are bad and were
+-- left out, and the greatest c that the form of its stamps writes
 pub record OpenedLog : Type 0 where
   pub log : LogInOrder
   pub nodes : List (List ℕ)
   pub labels : List (ℕ × List ℕ)
   pub questions : List LogQuestion
   pub unsent : Option ℕ
+  pub resent : Option ℕ
   pub skipped : Option Skipped
+  pub left_out : List BadLine
   pub full : ℕ
 
 -- the record of each event begins on a later line than those before it
@@ -36,7 +43,7 @@ pub record IsOpen (opened : OpenedLog) : Type 0 where
   pub ordered : IsInOrder opened.log
   pub nodes_are : opened.log.nodes ≡ length opened.nodes
   pub rise : LinesRise opened.log.events
-  pub few : length opened.nodes ≤ MAX_NODES
+  pub few : length opened.nodes ≤ MAX_LOG_NODES
   pub named : HaveNames opened.log.events opened.nodes
 
 -- an opened log is the same after as before, but for the order of its events
@@ -47,32 +54,46 @@ pub record IsReordered (before after : OpenedLog) : Type 0 where
   pub labels : after.labels ≡ before.labels
   pub questions : after.questions ≡ before.questions
   pub unsent : after.unsent ≡ before.unsent
+  pub resent : after.resent ≡ before.resent
   pub skipped : after.skipped ≡ before.skipped
+  pub left_out : after.left_out ≡ before.left_out
   pub full : after.full ≡ before.full
 
--- the events of a log that was read as they are opened: receives of messages that nobody sends came in from outside if it is told what these carried,
--- and are else local if the rules say so
-abbrev pub opened_events : LogRules → List LogEvent → List LogEvent
-opened_events rules events = with_unsent rules.unsent_local events
+-- the events of a log with so many messages, of which those that are sent again are told apart, if it is said which send a receive of one is of
+abbrev pub resent_apart : Option Resent → (messages : ℕ) → List LogEvent → List LogEvent
+resent_apart None messages events = events
+resent_apart (Some resent) messages events = with_resent resent messages events
+
+-- how many events send a message again, if they may
+abbrev pub resent_of : Option Resent → List LogEvent → Option ℕ
+resent_of None events = None
+resent_of (Some resent) events = Some (resent_count events)
+
+-- the events of a log that was read, with so many messages, as they are opened: messages that are sent again are told apart, if the rules say how;
+-- then receives of messages that nobody sends came in from outside if it is told what these carried, and are else local if the rules say so
+abbrev pub opened_events : LogRules → (messages : ℕ) → List LogEvent → List LogEvent
+opened_events rules messages events = with_unsent rules.unsent_local (resent_apart rules.resent messages events)
 
 -- how many receives of unsent messages are taken as local events, if the rules say so
-abbrev pub unsent_of : LogRules → List LogEvent → Option ℕ
-unsent_of rules events = if rules.unsent_local then Some (unsent_count events) else None
+abbrev pub unsent_of : LogRules → (messages : ℕ) → List LogEvent → Option ℕ
+unsent_of rules messages events = if rules.unsent_local then Some (unsent_count (resent_apart rules.resent messages events)) else None
 
--- events are in a causal order, by the rules, each without a stamp with the one that it is given; and so many are taken as local
-pub record IsOrderedOf (rules : LogRules) (events : List LogEvent) (log : LogInOrder) (unsent : Option ℕ) : Type 0 where
+-- events are in a causal order, by the rules, each without a stamp with the one that it is given; so many are taken as local, and so many send again
+pub record IsOrderedOf (rules : LogRules) (messages : ℕ) (events : List LogEvent) (log : LogInOrder) (unsent resent : Option ℕ) : Type 0 where
   pub receives : log.receives ≡ rules.receives
-  pub filled : AreFilled (opened_events rules events) log.events
+  pub filled : AreFilled (opened_events rules messages events) log.events
   pub in_order : IsInOrder log
-  pub taken : unsent ≡ unsent_of rules events
+  pub taken : unsent ≡ unsent_of rules messages events
+  pub again : resent ≡ resent_of rules.resent events
 
 -- a log that was read is opened, by the rules
 pub record IsOpenedOf (rules : LogRules) (text : LogText) (opened : OpenedLog) : Type 0 where
-  pub ordered : IsOrderedOf rules text.log.events opened.log opened.unsent
+  pub ordered : IsOrderedOf rules text.messages text.log.events opened.log opened.unsent opened.resent
   pub nodes : opened.nodes ≡ text.nodes
   pub labels : opened.labels ≡ text.labels
   pub questions : opened.questions ≡ text.questions.items
   pub skipped : opened.skipped ≡ text.skipped
+  pub left_out : opened.left_out ≡ text.left_out.items
   pub full : opened.full ≡ greatest_c rules.form
 
 -- the bytes are a log of at most so many records, which is opened
@@ -85,5 +106,5 @@ pub record IsSoundText (text : LogText) : Type 0 where
   pub in_range : All IsInRange text.log.events
   pub messages : text.messages ≤ 2 * MAX_CAPACITY
   pub rise : LinesRise text.log.events
-  pub few : length text.nodes ≤ MAX_NODES
+  pub few : length text.nodes ≤ MAX_LOG_NODES
   pub named : HaveNames text.log.events text.nodes

@@ -94,7 +94,7 @@ IsRecordBad rules most bytes b = (line : BadLine) × IsReadUpToBad rules most by
 
 -- bytes are a log that has no causal order for this reason, at this line
 abbrev pub IsOrderBad : LogRules → (most : ℕ) → (bytes : Option (List ℕ)) → BadInput → Type 0
-IsOrderBad rules most bytes b = (text : LogText) × IsReadWhole rules most bytes text × HasNoOrder (opened_events rules text.log.events) b
+IsOrderBad rules most bytes b = (text : LogText) × IsReadWhole rules most bytes text × HasNoOrder (opened_events rules text.messages text.log.events) b
 
 -- what a fault tells of the bytes
 abbrev pub ExplainsOpenFault : LogRules → (most : ℕ) → (bytes : Option (List ℕ)) → OpenFault → Type 0

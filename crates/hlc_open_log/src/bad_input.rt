@@ -3,7 +3,7 @@ use hlc_log_text::{BadLog, LogColumn};
 /// Why input can't be opened as a log: the first of these that holds.
 #[derive(Clone, Copy, Debug)]
 pub enum BadReason {
-    /// A record is bad: the first such.
+    /// A record is bad: the first such that isn't left out.
     Record(BadLog),
     /// An event sends a message that an earlier one sends.
     SentTwice,

@@ -3,10 +3,10 @@
 //! Whoever does something with a log begins by opening it, and lends the `OpenLog` to what follows: the audit (`hlc_log_audit`) and the
 //! picture (`hlc_log_picture`).
 //!
-//! - `open_log` reads a log to its end, takes receives of messages that nobody sends as `LogRules` say, and puts its events in a causal order,
-//!   in which those without a stamp are given theirs.
+//! - `open_log` reads a log to its end, takes messages that are sent again and receives of messages that nobody sends as `LogRules` say, and puts
+//!   its events in a causal order, in which those without a stamp are given theirs.
 //! - `OpenLog` has the log in order (`hlc_log_report`), the names of its nodes, its labels and its questions (`hlc_log_text`), how many
-//!   receives were taken as local events, which records were left out, and the greatest `c` that the form of its stamps can write. What is so
+//!   receives were taken as local events, how many sends sent a message again, which records were left out, and the greatest `c` that the form of its stamps can write. What is so
 //!   of each such log, `ordered` says: it is in order, its lines rise, and its nodes have names.
 //! - `OpenFault` says why a log could not be opened. For input that is bad, `BadInput` has the line and the reason: a bad record, or no causal
 //!   order.

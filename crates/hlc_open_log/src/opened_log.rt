@@ -1,5 +1,5 @@
 use hlc_log_report::OrderedLog;
-use hlc_log_text::{Labels, LogQuestion, Names, Skipped};
+use hlc_log_text::{BadLine, Labels, LogQuestion, Names, Skipped};
 use hlc_stamp::EventId;
 use std::alloc::{AllocError, Global};
 use std::marker::Model;
@@ -12,7 +12,9 @@ pub struct OpenLog {
     pub(crate) labels: Labels,
     pub(crate) questions: Vec<LogQuestion>,
     pub(crate) unsent: Option<u32>,
+    pub(crate) resent: Option<u32>,
     pub(crate) skipped: Option<Skipped>,
+    pub(crate) left_out: Vec<BadLine>,
     pub(crate) full: u32,
 }
 
@@ -27,7 +29,9 @@ impl Model for OpenLog {
       labels = a.labels;
       questions = a.questions.items;
       unsent = a.unsent;
+      resent = a.resent;
       skipped = a.skipped;
+      left_out = a.left_out.items;
       full = a.full;
     } };
 
@@ -37,7 +41,9 @@ impl Model for OpenLog {
       labels = a.labels;
       questions = a.questions.items;
       unsent = a.unsent;
+      resent = a.resent;
       skipped = a.skipped;
+      left_out = a.left_out.items;
       full = a.full;
     }) };
 }
@@ -46,7 +52,7 @@ impl OpenLog {
     ghost use Rattle.std.specs.Prelude.{◌≡◌, ◌≤◌, OnOk, length};
     ghost use Rattle.hlc_stamp.specs.Ids.{places_of};
     ghost use Rattle.hlc_log.specs.CausalOrder.{IsCausalOrder};
-    ghost use Rattle.hlc_stamp.specs.declared.limits.TheConstants.{MAX_NODES};
+    ghost use Rattle.hlc_log.specs.declared.log_event.TheConstants.{MAX_LOG_NODES};
     ghost use Rattle.hlc_log_report.specs.InOrder.{IsInOrder};
     ghost use Rattle.hlc_open_log.specs.Opened.{IsOpen, IsReordered, LinesRise};
 
@@ -75,7 +81,7 @@ impl OpenLog {
     /// The names of its nodes.
     pub fn nodes(&self) -> &Names
         ensures value { result.now ≡ self.now.nodes }
-        ensures few { length result.now ≤ MAX_NODES }
+        ensures few { length result.now ≤ MAX_LOG_NODES }
     {
         &self.nodes
     }
@@ -101,11 +107,25 @@ impl OpenLog {
         self.unsent
     }
 
-    /// Which records were left out of the log, if some were.
+    /// How many sends sent a message that an earlier one sent, if the rules said which of them receives are of.
+    pub fn resent(&self) -> Option<u32>
+        ensures { result ≡ self.now.resent }
+    {
+        self.resent
+    }
+
+    /// Which records were left out before the log was read, if some were.
     pub fn skipped(&self) -> Option<Skipped>
         ensures { result ≡ self.now.skipped }
     {
         self.skipped
+    }
+
+    /// The records that are bad and were left out, in the order of their lines.
+    pub fn left_out(&self) -> &[BadLine]
+        ensures { result.now ≡ self.now.left_out }
+    {
+        &self.left_out
     }
 
     /// The greatest `c` that the form of its stamps can write.

@@ -7,6 +7,7 @@ use Rattle.hlc_stamp.specs.declared.limits.TheConstants.{MAX_CAPACITY, MAX_RECOR
 use Rattle.hlc_stamp.specs.declared.settings.Settings.{Settings}
 use Rattle.hlc_causality.specs.declared.receives.Receives.{Receives}
 use Rattle.hlc_causality.specs.declared.receives.Receives.TheVariants.{Merge, MergeClock, Tick}
+use Rattle.hlc_log_text.specs.declared.fault_rule.FaultRule.TheVariants.{First}
 use Rattle.hlc_log_text.specs.declared.log_rules.LogRules.{LogRules}
 use Rattle.hlc_log_text.specs.declared.record_syntax.RecordSyntax.TheVariants.{Csv}
 use Rattle.hlc_log_text.specs.declared.stamp_form.StampForm.{StampForm}
@@ -100,6 +101,8 @@ pub record AreRulesOf (form tolerance receives : ℕ) (unsent_local : Bool) (lim
   pub tolerance_is : rules.records.tolerance ≡ tolerance
   pub receives_are : rules.records.receives ≡ receives_of receives
   pub unsent_is : rules.records.unsent_local ≡ unsent_local
+  pub resent_is : rules.records.resent ≡ None
+  pub faults_are : rules.records.faults ≡ First
   pub limit_is : rules.limit ≡ limit_of limit
   pub report_is : rules.report ≡ report
 
@@ -126,7 +129,7 @@ IsAudit form tolerance receives unsent_local limit report log status answer =
 abbrev pub IsLogTooLong : (form tolerance receives : ℕ) → (log : List ℕ) → Type 0
 IsLogTooLong form tolerance receives log =
     (rules : LogRules) × (rules.syntax ≡ Csv) × IsFormOf form rules.form × (rules.units ≡ None) × (rules.tolerance ≡ tolerance)
-    × (rules.receives ≡ receives_of receives) × HasTooMany rules MAX_CAPACITY (Some log)
+    × (rules.receives ≡ receives_of receives) × (rules.faults ≡ First) × HasTooMany rules MAX_CAPACITY (Some log)
 
 -- these are the options to draw a log of which these are the numbers
 pub record AreDrawingOf (form tolerance receives : ℕ) (unsent_local : Bool) (explained from to : ℕ) (options : DrawLogOptions) : Type 0 where
@@ -136,6 +139,8 @@ pub record AreDrawingOf (form tolerance receives : ℕ) (unsent_local : Bool) (e
   pub tolerance_is : options.records.tolerance ≡ tolerance
   pub receives_are : options.records.receives ≡ receives_of receives
   pub unsent_is : options.records.unsent_local ≡ unsent_local
+  pub resent_is : options.records.resent ≡ None
+  pub faults_are : options.records.faults ≡ First
   pub part_is : options.part ≡ Rows (Between (line_of from) (line_of to)) (line_of explained)
 
 -- these bytes are what the program writes if it draws that log by these numbers

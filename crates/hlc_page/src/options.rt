@@ -4,12 +4,13 @@ ghost use Rattle.std.specs.Prelude.{◌≡◌, ◌↔◌, IfSome, IsNone, IsSome
 ghost use Rattle.hlc_core.specs.State.{new_refusal};
 ghost use Rattle.hlc_seeded.specs.Storm.{are_settings};
 ghost use Rattle.hlc_page.specs.Answer.{AreDrawingOf, AreRulesOf, IsFormOf, event_of, limit_of, line_of, receives_of, settings_of};
+ghost use Rattle.hlc_log_text.specs.declared.fault_rule.FaultRule.TheVariants.{First};
 ghost use Rattle.hlc_log_text.specs.declared.record_syntax.RecordSyntax.TheVariants.{Csv};
 
 use hlc_causality::Receives;
 use hlc_command_line::{DrawLogOptions, LogPart, LogRows};
 use hlc_log_audit::AuditRules;
-use hlc_log_text::{LogRules, PackedBits, RecordSyntax, StampForm};
+use hlc_log_text::{FaultRule, LogRules, PackedBits, RecordSyntax, StampForm};
 use hlc_stamp::{
     EventId, MAX_CAPACITY, MAX_NODES, MAX_STEPS, MIN_CAPACITY, MIN_NODES, MIN_STEPS, Settings,
 };
@@ -107,6 +108,8 @@ fn records(stamp_form: u32, tolerance: u64, receives: u32, unsent_local: bool) -
     ensures tolerance { result.tolerance ≡ tolerance }
     ensures receives { result.receives ≡ receives_of receives }
     ensures unsent { result.unsent_local ≡ unsent_local }
+    ensures resent { result.resent ≡ None }
+    ensures faults { result.faults ≡ First }
 {
     LogRules {
         syntax: RecordSyntax::Csv,
@@ -115,6 +118,8 @@ fn records(stamp_form: u32, tolerance: u64, receives: u32, unsent_local: bool) -
         tolerance,
         receives: receives_of(receives),
         unsent_local,
+        resent: None,
+        faults: FaultRule::First,
     }
 }
 

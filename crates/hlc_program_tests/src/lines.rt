@@ -42,39 +42,39 @@ static ORDERS: [(&str, &str); 30] = [
     ("hlc judge", "Judge"),
     (
         "hlc draw-log --dotted --unsent local --explain 3 --from 7 --to 5",
-        "DrawLog { options: DrawLogOptions { records: LogRules { syntax: Csv, form: Dotted, units: None, tolerance: 0, receives: Tick, unsent_local: true }, part: Rows { rows: Between { from: Some(7), to: Some(5) }, explained: Some(3) } }, json: None }",
+        "DrawLog { options: DrawLogOptions { records: LogRules { syntax: Csv, form: Dotted, units: None, tolerance: 0, receives: Tick, unsent_local: true, resent: None, faults: First }, part: Rows { rows: Between { from: Some(7), to: Some(5) }, explained: Some(3) } }, json: None }",
     ),
     (
         "hlc draw-log --around 7 --explain 3",
-        "DrawLog { options: DrawLogOptions { records: LogRules { syntax: Csv, form: Pair, units: None, tolerance: 0, receives: Tick, unsent_local: false }, part: Rows { rows: Around { line: 7, rows: 40 }, explained: Some(3) } }, json: None }",
+        "DrawLog { options: DrawLogOptions { records: LogRules { syntax: Csv, form: Pair, units: None, tolerance: 0, receives: Tick, unsent_local: false, resent: None, faults: First }, part: Rows { rows: Around { line: 7, rows: 40 }, explained: Some(3) } }, json: None }",
     ),
     (
         "hlc draw-log --rows 1 --around 4294967295",
-        "DrawLog { options: DrawLogOptions { records: LogRules { syntax: Csv, form: Pair, units: None, tolerance: 0, receives: Tick, unsent_local: false }, part: Rows { rows: Around { line: 4294967295, rows: 1 }, explained: None } }, json: None }",
+        "DrawLog { options: DrawLogOptions { records: LogRules { syntax: Csv, form: Pair, units: None, tolerance: 0, receives: Tick, unsent_local: false, resent: None, faults: First }, part: Rows { rows: Around { line: 4294967295, rows: 1 }, explained: None } }, json: None }",
     ),
     (
         "hlc draw-log --only-chain --explain 3",
-        "DrawLog { options: DrawLogOptions { records: LogRules { syntax: Csv, form: Pair, units: None, tolerance: 0, receives: Tick, unsent_local: false }, part: Chain { line: 3 } }, json: None }",
+        "DrawLog { options: DrawLogOptions { records: LogRules { syntax: Csv, form: Pair, units: None, tolerance: 0, receives: Tick, unsent_local: false, resent: None, faults: First }, part: Chain { line: 3 } }, json: None }",
     ),
     (
         "hlc audit",
-        "Audit { options: AuditOptions { records: LogRules { syntax: Csv, form: Pair, units: None, tolerance: 0, receives: Tick, unsent_local: false }, strict: false, limit: None, report: false }, asked: [], json: None }",
+        "Audit { options: AuditOptions { records: LogRules { syntax: Csv, form: Pair, units: None, tolerance: 0, receives: Tick, unsent_local: false, resent: None, faults: First }, strict: false, limit: None, report: false }, asked: [], json: None }",
     ),
     (
         "hlc audit --strict --limit 0",
-        "Audit { options: AuditOptions { records: LogRules { syntax: Csv, form: Pair, units: None, tolerance: 0, receives: Tick, unsent_local: false }, strict: true, limit: Some(0), report: false }, asked: [], json: None }",
+        "Audit { options: AuditOptions { records: LogRules { syntax: Csv, form: Pair, units: None, tolerance: 0, receives: Tick, unsent_local: false, resent: None, faults: First }, strict: true, limit: Some(0), report: false }, asked: [], json: None }",
     ),
     (
         "hlc audit --unsent local --dotted",
-        "Audit { options: AuditOptions { records: LogRules { syntax: Csv, form: Dotted, units: None, tolerance: 0, receives: Tick, unsent_local: true }, strict: false, limit: None, report: false }, asked: [], json: None }",
+        "Audit { options: AuditOptions { records: LogRules { syntax: Csv, form: Dotted, units: None, tolerance: 0, receives: Tick, unsent_local: true, resent: None, faults: First }, strict: false, limit: None, report: false }, asked: [], json: None }",
     ),
     (
-        "hlc audit --receives merge-clock --tolerance 9",
-        "Audit { options: AuditOptions { records: LogRules { syntax: Csv, form: Pair, units: None, tolerance: 9, receives: MergeClock, unsent_local: false }, strict: false, limit: None, report: false }, asked: [], json: None }",
+        "hlc audit --receives merge-clock --tolerance 9 --resent last",
+        "Audit { options: AuditOptions { records: LogRules { syntax: Csv, form: Pair, units: None, tolerance: 9, receives: MergeClock, unsent_local: false, resent: Some(Last), faults: First }, strict: false, limit: None, report: false }, asked: [], json: None }",
     ),
     (
-        "hlc audit --report",
-        "Audit { options: AuditOptions { records: LogRules { syntax: Csv, form: Pair, units: None, tolerance: 0, receives: Tick, unsent_local: false }, strict: false, limit: None, report: true }, asked: [], json: None }",
+        "hlc audit --report --lenient",
+        "Audit { options: AuditOptions { records: LogRules { syntax: Csv, form: Pair, units: None, tolerance: 0, receives: Tick, unsent_local: false, resent: None, faults: LeaveOut }, strict: false, limit: None, report: true }, asked: [], json: None }",
     ),
     (
         "hlc storm --nodes 2 --steps 1 --seed 0",
@@ -94,7 +94,7 @@ static ORDERS: [(&str, &str); 30] = [
     ),
     (
         "hlc audit --ask explain,2 --strict --ask drift,\"a,b\" --ask=explain,2",
-        "Audit { options: AuditOptions { records: LogRules { syntax: Csv, form: Pair, units: None, tolerance: 0, receives: Tick, unsent_local: false }, strict: true, limit: None, report: false }, asked: [Explain(Line(2)), Drift([97, 44, 98]), Explain(Line(2))], json: None }",
+        "Audit { options: AuditOptions { records: LogRules { syntax: Csv, form: Pair, units: None, tolerance: 0, receives: Tick, unsent_local: false, resent: None, faults: First }, strict: true, limit: None, report: false }, asked: [Explain(Line(2)), Drift([97, 44, 98]), Explain(Line(2))], json: None }",
     ),
     (
         "hlc trace --nodes 3 --capacity 9 --limit 5 --vector",
@@ -102,27 +102,27 @@ static ORDERS: [(&str, &str); 30] = [
     ),
     (
         "hlc audit --packed 1",
-        "Audit { options: AuditOptions { records: LogRules { syntax: Csv, form: Packed(PackedBits { bits: 1 }), units: None, tolerance: 0, receives: Tick, unsent_local: false }, strict: false, limit: None, report: false }, asked: [], json: None }",
+        "Audit { options: AuditOptions { records: LogRules { syntax: Csv, form: Packed(PackedBits { bits: 1 }), units: None, tolerance: 0, receives: Tick, unsent_local: false, resent: None, faults: First }, strict: false, limit: None, report: false }, asked: [], json: None }",
     ),
     (
         "hlc audit --packed=12",
-        "Audit { options: AuditOptions { records: LogRules { syntax: Csv, form: Packed(PackedBits { bits: 12 }), units: None, tolerance: 0, receives: Tick, unsent_local: false }, strict: false, limit: None, report: false }, asked: [], json: None }",
+        "Audit { options: AuditOptions { records: LogRules { syntax: Csv, form: Packed(PackedBits { bits: 12 }), units: None, tolerance: 0, receives: Tick, unsent_local: false, resent: None, faults: First }, strict: false, limit: None, report: false }, asked: [], json: None }",
     ),
     (
         "hlc audit --packed 32",
-        "Audit { options: AuditOptions { records: LogRules { syntax: Csv, form: Packed(PackedBits { bits: 32 }), units: None, tolerance: 0, receives: Tick, unsent_local: false }, strict: false, limit: None, report: false }, asked: [], json: None }",
+        "Audit { options: AuditOptions { records: LogRules { syntax: Csv, form: Packed(PackedBits { bits: 32 }), units: None, tolerance: 0, receives: Tick, unsent_local: false, resent: None, faults: First }, strict: false, limit: None, report: false }, asked: [], json: None }",
     ),
     (
         "hlc audit --jsonl --kind send=posted,sent --field l=.hlc.l --field l=.l",
-        "Audit { options: AuditOptions { records: LogRules { syntax: JsonLines, form: Pair, units: None, tolerance: 0, receives: Tick, unsent_local: false }, strict: false, limit: None, report: false }, asked: [], json: Some(JsonRules { paths: [PathRule { column: L, path: \"hlc.l\" }, PathRule { column: L, path: \"l\" }], kinds: [KindRule { word: Send, values: \"posted,sent\" }] }) }",
+        "Audit { options: AuditOptions { records: LogRules { syntax: JsonLines, form: Pair, units: None, tolerance: 0, receives: Tick, unsent_local: false, resent: None, faults: First }, strict: false, limit: None, report: false }, asked: [], json: Some(JsonRules { paths: [PathRule { name: FieldName { word: None, column: L }, path: \"hlc.l\" }, PathRule { name: FieldName { word: None, column: L }, path: \"l\" }], kinds: [KindRule { word: Send, values: \"posted,sent\" }] }) }",
     ),
     (
         "hlc draw-log --jsonl --explain 3",
-        "DrawLog { options: DrawLogOptions { records: LogRules { syntax: JsonLines, form: Pair, units: None, tolerance: 0, receives: Tick, unsent_local: false }, part: Rows { rows: Between { from: None, to: None }, explained: Some(3) } }, json: Some(JsonRules { paths: [], kinds: [] }) }",
+        "DrawLog { options: DrawLogOptions { records: LogRules { syntax: JsonLines, form: Pair, units: None, tolerance: 0, receives: Tick, unsent_local: false, resent: None, faults: First }, part: Rows { rows: Between { from: None, to: None }, explained: Some(3) } }, json: Some(JsonRules { paths: [], kinds: [] }) }",
     ),
     (
         "hlc audit --l-unit ntp64 --packed 4 --reading-unit ms",
-        "Audit { options: AuditOptions { records: LogRules { syntax: Csv, form: Packed(PackedBits { bits: 4 }), units: Some(Units { reading: Milliseconds, l: Ntp64 }), tolerance: 0, receives: Tick, unsent_local: false }, strict: false, limit: None, report: false }, asked: [], json: None }",
+        "Audit { options: AuditOptions { records: LogRules { syntax: Csv, form: Packed(PackedBits { bits: 4 }), units: Some(Units { reading: Milliseconds, l: Ntp64 }), tolerance: 0, receives: Tick, unsent_local: false, resent: None, faults: First }, strict: false, limit: None, report: false }, asked: [], json: None }",
     ),
 ];
 

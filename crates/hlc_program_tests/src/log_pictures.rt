@@ -8,7 +8,7 @@ use hlc_cli::CommandFault;
 use hlc_command_line::{DrawLogOptions, LogPart, LogRows};
 use hlc_csv::RecordsFault;
 use hlc_log_commands::draw_log_up_to;
-use hlc_log_text::{LogRules, RecordSyntax, StampForm};
+use hlc_log_text::{FaultRule, LogRules, RecordSyntax, StampForm};
 use std::alloc::Global;
 use std::process::Abort;
 
@@ -24,6 +24,8 @@ const ALL_ROWS: DrawLogOptions = DrawLogOptions {
         tolerance: 0,
         receives: Receives::Tick,
         unsent_local: false,
+        resent: None,
+        faults: FaultRule::First,
     },
     part: LogPart::Rows {
         rows: LogRows::Between {

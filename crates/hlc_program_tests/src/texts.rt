@@ -140,7 +140,10 @@ fn expect_texts_of_lines(rt: &impl Abort, alloc: Global) {
                 LineFault::Receives,
                 "--receives takes `tick`, `merge` or `merge-clock`",
             ),
-            (LineFault::Question, "--ask takes a question of a log"),
+            (
+                LineFault::Question,
+                "--ask takes a question of a log: explain,LINE, check,LINE,LINE.., relation,LINE,LINE, influenced,LINE, drift,NODE, claimed,LINE or event,LINE",
+            ),
             (
                 LineFault::Sign("packed"),
                 "--packed takes a whole number without a sign",
@@ -169,6 +172,10 @@ fn expect_texts_of_lines(rt: &impl Abort, alloc: Global) {
                 LineFault::Records(RecordsMistake::UnitAlone),
                 "--reading-unit and --l-unit need one another",
             ),
+            (
+                LineFault::Records(RecordsMistake::Resent),
+                "--resent takes `first` or `last`",
+            ),
             (LineFault::Memory, "out of memory"),
         ],
     );
@@ -192,7 +199,7 @@ fn expect_texts_of_lines(rt: &impl Abort, alloc: Global) {
             ),
             (
                 Fault::Line(LineFault::Question),
-                "--ask takes a question of a log",
+                "--ask takes a question of a log: explain,LINE, check,LINE,LINE.., relation,LINE,LINE, influenced,LINE, drift,NODE, claimed,LINE or event,LINE",
             ),
             (
                 Fault::Line(LineFault::Part(PartMistake::RowsAlone)),

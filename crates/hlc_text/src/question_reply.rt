@@ -1,4 +1,4 @@
-ghost use Rattle.std.specs.Prelude.{◌≡◌, [], ◌∷◌, ◌++◌, false, bytes_eq, codes, IfOk, OnOk};
+ghost use Rattle.std.specs.Prelude.{◌≡◌, ◌≤◌, [], ◌∷◌, ◌++◌, false, bytes_eq, codes, IfOk, OnOk};
 ghost use Rattle.hlc_stamp.specs.Ids.{places_of};
 ghost use Rattle.hlc_causality.specs.ReceiveEvents.{plain_rules};
 ghost use Rattle.hlc_execution.specs.Execution.{HasLeastClockStamps};
@@ -19,7 +19,7 @@ use hlc_causality::Receives;
 use hlc_core::{Cluster, Inbox, Refusal};
 use hlc_csv::yes_or_no;
 use hlc_execution::Execution;
-use hlc_stamp::{EventId, NodeId, Stamp};
+use hlc_stamp::{EventId, MAX_NODES, NodeId, Stamp};
 use std::alloc::{AllocError, Global};
 
 // The row of a node's inbox.
@@ -184,6 +184,7 @@ fn execution_of(cluster: &Cluster) -> &Execution
     ensures events { result.now.events ≡ causality_of cluster.now.history.events }
     ensures stamps { result.now.stamps ≡ stamps_of cluster.now.history.events }
     ensures nodes { result.now.nodes ≡ cluster.now.history.nodes }
+    ensures few { result.now.nodes ≤ MAX_NODES }
     ensures rules { result.now.rules ≡ plain_rules Receives.Tick }
     ensures least { HasLeastClockStamps result.now }
 {

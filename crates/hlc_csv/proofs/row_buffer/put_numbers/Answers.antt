@@ -1,4 +1,5 @@
 use Rattle.std.proofs.Common.{◌≡◌, ◌∙◌, ◌<◌, ◌∷◌, [], ℕ, List, decimal, get_or, length, refl, sym, append-nil, arith}
+use Rattle.std.proofs.lemmas.Result.{err_from_is_err_and}
 use Rattle.csv.specs.Writing.{fields_text}
 use Rattle.hlc_csv.proofs.RowTextFacts.{fields_text-next}
 use Rattle.hlc_csv.proofs.row_buffer.put_numbers.Goals as goal
@@ -24,3 +25,6 @@ loop-number-preserved c =
     let at = c.loop-number.number-index in
     let within : at < length numbers = omega arith in
     rw c.loop-number.invariant at c.in_ok-put_next_number.ensures ∙ fields_text-next c.args.text.now.items decimal numbers at 0 within
+
+pub returns-in_err-put_next_number : goal.returns-in_err-put_next_number
+returns-in_err-put_next_number c = rw (err_from_is_err_and c.from_residual.result c.from_residual.ensures.1).1 tt

@@ -1,5 +1,5 @@
 use Rattle.std.proofs.Common.{◌≡◌, ◌∙◌, ◌+◌, ◌==◌, ◌++◌, ◌∷◌, [], ℕ, List, length, take, take_all, refl, sym, ap, append_assoc, arith}
-use Rattle.std.proofs.lemmas.Result.{on_ok_weaker}
+use Rattle.std.proofs.lemmas.Result.{err_from_is_err_and, on_ok_weaker}
 use Rattle.csv.specs.Writing.{escaped}
 use Rattle.csv.proofs.WriteFacts.{escaped-append, escaped-none, slice-end}
 use Rattle.hlc_csv.proofs.QuoteFacts.{around-quote, escaped-past, none-before}
@@ -48,3 +48,15 @@ returns c =
     (λ items. items ∙ ap (λ (t : List ℕ). t ++ close) grown ∙ append_assoc (before ++ 34 ∷ done) rest close
     ∙ append_assoc before (34 ∷ done) (rest ++ close) ∙ ap (λ (t : List ℕ). before ++ 34 ∷ t) (sym (append_assoc done rest close)))
     closed)
+
+pub returns-in_err-extend_from_slice : goal.returns-in_err-extend_from_slice
+returns-in_err-extend_from_slice c = rw (err_from_is_err_and c.from_residual.result c.from_residual.ensures.1).1 tt
+
+pub returns-in_err-extend_from_slice-2 : goal.returns-in_err-extend_from_slice-2
+returns-in_err-extend_from_slice-2 c = rw (err_from_is_err_and c.from_residual-in_err-extend_from_slice-2.result c.from_residual-in_err-extend_from_slice-2.ensures.1).1 tt
+
+pub returns-in_err-extend_from_slice-3 : goal.returns-in_err-extend_from_slice-3
+returns-in_err-extend_from_slice-3 c = rw (err_from_is_err_and c.from_residual-in_err-extend_from_slice-3.result c.from_residual-in_err-extend_from_slice-3.ensures.1).1 tt
+
+pub returns-in_err-extend_from_slice-4 : goal.returns-in_err-extend_from_slice-4
+returns-in_err-extend_from_slice-4 c = rw (err_from_is_err_and c.from_residual-in_err-extend_from_slice-4.result c.from_residual-in_err-extend_from_slice-4.ensures.1).1 tt

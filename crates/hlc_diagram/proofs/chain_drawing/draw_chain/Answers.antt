@@ -1,4 +1,5 @@
 use Rattle.std.proofs.Common.{◌≡◌, ◌∙◌, ℕ, ◌≤◌, List, Some, ap, arith, length, subst, sym}
+use Rattle.std.proofs.lemmas.Result.{err_from_is_err_and}
 use Rattle.std.specs.Io.KnownBytes.{Appends}
 use Rattle.hlc_stamp.specs.Ids.{places_of}
 use Rattle.hlc_stamp.specs.declared.id.EventId.{EventId}
@@ -10,6 +11,7 @@ use Rattle.hlc_figures.specs.Content.{Content, clock_events_of}
 use Rattle.hlc_figures.specs.declared.chain_rows.ChainRow.{ChainRow}
 use Rattle.hlc_svg.specs.declared.frame.Frame.{Frame}
 use Rattle.hlc_figures.proofs.Chains.{listed_rises, listed_rows_exist, listed_rows_fit}
+use Rattle.hlc_diagram.proofs.Faults.{other_fault}
 use Rattle.hlc_diagram.proofs.chain_drawing.draw_chain.Goals as goal
 
 pub chain_rows-requires : goal.chain_rows-requires
@@ -92,3 +94,43 @@ returns-then-lacks-clause-drawn_without g c =
     λ no_event. subst (λ (t : List ℕ). Appends w0 w1 t)
     (chain_drawn of c.args.event (places_of c.in_ok-list.list.items) c.in_ok-layout.layout.frame c.deref-6.result.now listed around are)
     c.in_ok-draw_rows.ensures.text
+
+pub returns-in_err-list : goal.returns-in_err-list
+returns-in_err-list g c =
+    let from = err_from_is_err_and c.from_residual.result c.from_residual.ensures.1 in
+    rw (from.1, from.2) record {
+      drawn = tt;
+      drawn_without = other_fault _ c.in_err-list.ensures.fault;
+      no_event = other_fault _ c.in_err-list.ensures.fault;
+      event = tt;
+    }
+
+pub returns-in_err-rows : goal.returns-in_err-rows
+returns-in_err-rows g c =
+    let from = err_from_is_err_and c.from_residual-in_err-rows.result c.from_residual-in_err-rows.ensures.1 in
+    rw (from.1, from.2) record {
+      drawn = tt;
+      drawn_without = other_fault _ tt;
+      no_event = other_fault _ tt;
+      event = tt;
+    }
+
+pub returns-in_err-layout : goal.returns-in_err-layout
+returns-in_err-layout g c =
+    let from = err_from_is_err_and c.from_residual-in_err-layout.result c.from_residual-in_err-layout.ensures.1 in
+    rw (from.1, from.2) record {
+      drawn = tt;
+      drawn_without = other_fault _ tt;
+      no_event = other_fault _ tt;
+      event = tt;
+    }
+
+pub returns-in_err-draw_rows : goal.returns-in_err-draw_rows
+returns-in_err-draw_rows g c =
+    let from = err_from_is_err_and c.from_residual-in_err-draw_rows.result c.from_residual-in_err-draw_rows.ensures.1 in
+    rw (from.1, from.2) record {
+      drawn = tt;
+      drawn_without = other_fault _ c.in_err-draw_rows.ensures.fault;
+      no_event = other_fault _ c.in_err-draw_rows.ensures.fault;
+      event = tt;
+    }

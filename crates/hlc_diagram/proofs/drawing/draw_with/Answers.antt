@@ -1,4 +1,5 @@
 use Rattle.std.proofs.Common.{◌≡◌, ◌∙◌, ℕ, ◌≤◌, Bool, List, Option, ap, arith, length, subst, sym}
+use Rattle.std.proofs.lemmas.Result.{err_from_is_err_and}
 use Rattle.std.specs.Io.KnownBytes.{Appends}
 use Rattle.hlc_causality.specs.Neighbours.{place_of}
 use Rattle.hlc_stamp.specs.Ids.{places_of}
@@ -11,6 +12,7 @@ use Rattle.hlc_figures.specs.Figure.{next_of}
 use Rattle.hlc_diagram.specs.Picture.{picture_in, picture_text}
 use Rattle.hlc_svg.specs.declared.frame.Frame.{Frame}
 use Rattle.hlc_diagram.specs.declared.view.View.{View}
+use Rattle.hlc_diagram.proofs.Faults.{other_fault}
 use Rattle.hlc_diagram.proofs.drawing.draw_with.Goals as goal
 
 -- the events of a view stand in order, and exist
@@ -83,3 +85,43 @@ returns-then-lacks-clause-drawn_without g c =
     let w1 = g.W.Write.contents c.draw_scene.new.writer in
     λ no_event. subst (λ (f : Frame). Appends w0 w1 (picture_text (picture_in of f c.args.view.explained c.args.undelivered.now)))
     c.in_ok-layout.ensures.frame c.in_ok-draw_scene.ensures.text
+
+pub returns-in_err-layout : goal.returns-in_err-layout
+returns-in_err-layout g c =
+    let from = err_from_is_err_and c.from_residual.result c.from_residual.ensures.1 in
+    rw (from.1, from.2) record {
+      drawn = tt;
+      drawn_without = other_fault _ tt;
+      no_event = other_fault _ tt;
+      event = tt;
+    }
+
+pub returns-in_err-list : goal.returns-in_err-list
+returns-in_err-list g c =
+    let from = err_from_is_err_and c.from_residual-in_err-list.result c.from_residual-in_err-list.ensures.1 in
+    rw (from.1, from.2) record {
+      drawn = tt;
+      drawn_without = other_fault _ c.in_err-list.ensures.fault;
+      no_event = other_fault _ c.in_err-list.ensures.fault;
+      event = tt;
+    }
+
+pub returns-in_err-marks : goal.returns-in_err-marks
+returns-in_err-marks g c =
+    let from = err_from_is_err_and c.from_residual-in_err-marks.result c.from_residual-in_err-marks.ensures.1 in
+    rw (from.1, from.2) record {
+      drawn = tt;
+      drawn_without = other_fault _ tt;
+      no_event = other_fault _ tt;
+      event = tt;
+    }
+
+pub returns-in_err-draw_scene : goal.returns-in_err-draw_scene
+returns-in_err-draw_scene g c =
+    let from = err_from_is_err_and c.from_residual-in_err-draw_scene.result c.from_residual-in_err-draw_scene.ensures.1 in
+    rw (from.1, from.2) record {
+      drawn = tt;
+      drawn_without = other_fault _ c.in_err-draw_scene.ensures.fault;
+      no_event = other_fault _ c.in_err-draw_scene.ensures.fault;
+      event = tt;
+    }

@@ -8,8 +8,8 @@ abbrev pub invariant-loop-earlier : goal.invariant-loop-earlier
 invariant-loop-earlier l =
     let s = l.execution.events in
     record {
-      frontier : IsFrontier s l.frontier;
-      before : HappenedBefore s l.earlier.0 l.fn.later.0 ↔ IsInRest s l.frontier l.earlier.0;
+      frontier : IsFrontier s l.ends l.frontier;
+      before : HappenedBefore s l.earlier.0 l.fn.later.0 ↔ IsInRest s l.ends l.frontier l.earlier.0;
     }
 
 abbrev pub decreases-loop-earlier : goal.decreases-loop-earlier

@@ -1,5 +1,6 @@
 use Rattle.std.proofs.Common.{◌∙◌, ◌<◌, ◌++◌, List, None, ap, append-nil, arith, length, sym}
 use Rattle.std.proofs.Math.ListN.{drop_of_length-le}
+use Rattle.std.proofs.lemmas.Result.{err_from_is_err_and}
 use Rattle.hlc_stamp.specs.Ids.{places_of}
 use Rattle.hlc_stamp.specs.declared.id.EventId.{EventId}
 use Rattle.hlc_figures.specs.ChainRows.{rows_from}
@@ -40,3 +41,9 @@ returns c =
     let rows = c.loop-event.rows.items in
     let none_left = drop_of_length-le c.args.chain.now c.loop-event-test.false in
     sym (append-nil rows) ∙ ap (λ (left : List EventId). rows ++ rows_from before (places_of left)) (sym none_left) ∙ c.loop-event.invariant.rows
+
+pub returns-in_err-put_gap : goal.returns-in_err-put_gap
+returns-in_err-put_gap c = rw (err_from_is_err_and c.from_residual.result c.from_residual.ensures.1).1 tt
+
+pub returns-in_err-push : goal.returns-in_err-push
+returns-in_err-push c = rw (err_from_is_err_and c.from_residual-in_err-push.result c.from_residual-in_err-push.ensures.1).1 tt

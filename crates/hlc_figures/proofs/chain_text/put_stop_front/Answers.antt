@@ -1,5 +1,5 @@
 use Rattle.std.proofs.Common.{◌≡◌, ◌∙◌, ◌++◌, ℕ, ap, string_bytes}
-use Rattle.std.proofs.lemmas.Result.{on_ok_weaker}
+use Rattle.std.proofs.lemmas.Result.{err_from_is_err_and, on_ok_weaker}
 use Rattle.hlc_figures.specs.ChainFigure.{dot_in}
 use Rattle.hlc_svg.specs.Frame.{row_y}
 use Rattle.hlc_figures.specs.FigureText.{front_text}
@@ -23,3 +23,6 @@ returns g c =
     let is_dot : one ≡ old ++ dot = c.in_ok-put_dot.ensures ∙ ap (λ (d : Dot). old ++ dot_text d (title_text of d.event.0)) c.stop_dot.ensures in
     let height = ap (λ (y : ℕ). one ++ row_text (row_at of frame y at.event.0)) c.row_y.ensures in
     on_ok_weaker c.put_row.result (λ is. then_added old one (string_bytes c.put_row.new.text) dot row is_dot (is ∙ height)) c.put_row.ensures
+
+pub returns-in_err-put_dot : goal.returns-in_err-put_dot
+returns-in_err-put_dot g c = rw (err_from_is_err_and c.from_residual.result c.from_residual.ensures.1).1 tt

@@ -1,5 +1,5 @@
 use Rattle.std.proofs.Common.{◌≡◌, ◌∙◌, ◌++◌, [], ap, append-nil, string_bytes, sym}
-use Rattle.std.proofs.lemmas.Result.{on_ok_weaker}
+use Rattle.std.proofs.lemmas.Result.{err_from_is_err_and, on_ok_weaker}
 use Rattle.hlc_figures.specs.ChainFigure.{stop_arrow, stop_link}
 use Rattle.hlc_svg.specs.Shapes.{if_drawn, arrow_text, link_text}
 use Rattle.hlc_figures.specs.FigureText.{lines_text}
@@ -19,3 +19,6 @@ returns g c =
     on_ok_weaker c.put_arrow.result (λ e.
     then_added old one new link (arrow ++ []) is_link
     (e ∙ ap (λ o. one ++ if_drawn arrow_text o) c.stop_arrow.ensures ∙ ap (λ t. one ++ t) (sym (append-nil arrow)))) c.put_arrow.ensures
+
+pub returns-in_err-put_link : goal.returns-in_err-put_link
+returns-in_err-put_link g c = rw (err_from_is_err_and c.from_residual.result c.from_residual.ensures.1).1 tt

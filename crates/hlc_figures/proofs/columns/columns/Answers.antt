@@ -1,4 +1,5 @@
 use Rattle.std.proofs.Common.{◌≡◌, ◌∙◌, ℕ, ◌+◌, ◌-◌, ◌*◌, ◌≤◌, ◌++◌, ◌∷◌, [], List, arith, ap, length, subst, sym}
+use Rattle.std.proofs.lemmas.Result.{err_from_is_err_and}
 use Rattle.std.specs.Prelude.{slice_index_or}
 use Rattle.hlc_figures.specs.Columns.{column_from, places_from}
 use Rattle.hlc_figures.proofs.BegunColumns.{next_begins, one_more, one_more_begins, stays_bounded}
@@ -31,3 +32,9 @@ returns g c =
       each_begins = l.invariant.each_begins ∙ ap (λ (n : ℕ). n + 1) last;
       begin = subst (λ (n : ℕ). (k : ℕ) → k ≤ n → slice_index_or l.columns.items k 0 ≡ begins k) last l.invariant.begin;
     }
+
+pub returns-in_err-columns : goal.returns-in_err-columns
+returns-in_err-columns g c = rw (err_from_is_err_and c.from_residual.result c.from_residual.ensures.1).1 tt
+
+pub returns-in_err-push : goal.returns-in_err-push
+returns-in_err-push g c = rw (err_from_is_err_and c.from_residual-in_err-push.result c.from_residual-in_err-push.ensures.1).1 tt

@@ -1,5 +1,5 @@
 use Rattle.std.proofs.Common.{◌++◌, string_bytes}
-use Rattle.std.proofs.lemmas.Result.{on_ok_weaker}
+use Rattle.std.proofs.lemmas.Result.{err_from_is_err_and, on_ok_weaker}
 use Rattle.hlc_svg.specs.Shapes.{dot_begins, dot_ends, dot_text, ring_if}
 use Rattle.hlc_figures.specs.Title.{title_text}
 use Rattle.hlc_svg.proofs.Added.{then_added}
@@ -20,3 +20,12 @@ returns g c =
     then_added old one new (dot_begins dot) (title ++ (ring ++ dot_ends dot)) c.in_ok-put_dot_start.ensures
     (then_added one two new title (ring ++ dot_ends dot) c.in_ok-put_title.ensures
     (then_added two three new ring (dot_ends dot) c.in_ok-put_ring.ensures e))) c.put_dot_end.ensures
+
+pub returns-in_err-put_dot_start : goal.returns-in_err-put_dot_start
+returns-in_err-put_dot_start g c = rw (err_from_is_err_and c.from_residual.result c.from_residual.ensures.1).1 tt
+
+pub returns-in_err-put_title : goal.returns-in_err-put_title
+returns-in_err-put_title g c = rw (err_from_is_err_and c.from_residual-in_err-put_title.result c.from_residual-in_err-put_title.ensures.1).1 tt
+
+pub returns-in_err-put_ring : goal.returns-in_err-put_ring
+returns-in_err-put_ring g c = rw (err_from_is_err_and c.from_residual-in_err-put_ring.result c.from_residual-in_err-put_ring.ensures.1).1 tt

@@ -1,5 +1,5 @@
 use Rattle.std.proofs.Common.{◌≡◌, ◌∙◌, ◌++◌, ℕ, ap, string_bytes}
-use Rattle.std.proofs.lemmas.Result.{on_ok_weaker}
+use Rattle.std.proofs.lemmas.Result.{err_from_is_err_and, on_ok_weaker}
 use Rattle.hlc_figures.specs.Figure.{dot_of}
 use Rattle.hlc_figures.specs.FigureText.{front_text}
 use Rattle.hlc_figures.specs.Row.{row_at, row_cells, row_text}
@@ -22,3 +22,6 @@ returns g c =
     let is_dot : one ≡ old ++ dot = c.in_ok-put_dot.ensures ∙ ap (λ (d : Dot). old ++ dot_text d (title_text of d.event.0)) c.dot.ensures in
     let at = ap (λ (y : ℕ). one ++ row_text (row_at of s.frame y e)) c.y.ensures in
     on_ok_weaker c.put_row.result (λ is. then_added old one (string_bytes c.put_row.new.text) dot row is_dot (is ∙ at)) c.put_row.ensures
+
+pub returns-in_err-put_dot : goal.returns-in_err-put_dot
+returns-in_err-put_dot g c = rw (err_from_is_err_and c.from_residual.result c.from_residual.ensures.1).1 tt

@@ -1,5 +1,5 @@
 use Rattle.std.proofs.Common.{◌∙◌, ◌++◌, ap, string_bytes}
-use Rattle.std.proofs.lemmas.Result.{on_ok_weaker}
+use Rattle.std.proofs.lemmas.Result.{err_from_is_err_and, on_ok_weaker}
 use Rattle.hlc_figures.specs.FigureText.{lane_of}
 use Rattle.hlc_svg.specs.Shapes.{lane_line, lane_text, name_begins}
 use Rattle.hlc_svg.specs.declared.shapes.Lane.{Lane}
@@ -20,3 +20,9 @@ returns g c =
     on_ok_weaker c.put_lane_line.result (λ e.
     then_added old one new (name_begins lane) (name ++ lane_line lane) begun
     (then_added one two new name (lane_line lane) c.in_ok-put_name.ensures (e ∙ ap (λ (l : Lane). two ++ lane_line l) is))) c.put_lane_line.ensures
+
+pub returns-in_err-put_lane_start : goal.returns-in_err-put_lane_start
+returns-in_err-put_lane_start g c = rw (err_from_is_err_and c.from_residual.result c.from_residual.ensures.1).1 tt
+
+pub returns-in_err-put_name : goal.returns-in_err-put_name
+returns-in_err-put_name g c = rw (err_from_is_err_and c.from_residual-in_err-put_name.result c.from_residual-in_err-put_name.ensures.1).1 tt

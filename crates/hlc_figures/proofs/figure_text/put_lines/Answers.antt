@@ -1,5 +1,5 @@
 use Rattle.std.proofs.Common.{◌≡◌, ◌∙◌, ◌++◌, ap, string_bytes}
-use Rattle.std.proofs.lemmas.Result.{on_ok_weaker}
+use Rattle.std.proofs.lemmas.Result.{err_from_is_err_and, on_ok_weaker}
 use Rattle.hlc_figures.specs.Figure.{arrow_of, entering_of, leaving_of, link_of, stub_of}
 use Rattle.hlc_svg.specs.Shapes.{if_drawn, arrow_text, end_text, link_text}
 use Rattle.hlc_figures.specs.FigureText.{lines_text}
@@ -31,3 +31,15 @@ returns g c =
     (then_added one two new stub (arrow ++ (entering ++ leaving)) is_stub
     (then_added two three new arrow (entering ++ leaving) is_arrow
     (then_added three four new entering leaving is_entering (e ∙ ap (λ o. four ++ if_drawn end_text o) c.leaving.ensures))))) c.put_end-2.ensures
+
+pub returns-in_err-put_link : goal.returns-in_err-put_link
+returns-in_err-put_link g c = rw (err_from_is_err_and c.from_residual.result c.from_residual.ensures.1).1 tt
+
+pub returns-in_err-put_link-2 : goal.returns-in_err-put_link-2
+returns-in_err-put_link-2 g c = rw (err_from_is_err_and c.from_residual-in_err-put_link-2.result c.from_residual-in_err-put_link-2.ensures.1).1 tt
+
+pub returns-in_err-put_arrow : goal.returns-in_err-put_arrow
+returns-in_err-put_arrow g c = rw (err_from_is_err_and c.from_residual-in_err-put_arrow.result c.from_residual-in_err-put_arrow.ensures.1).1 tt
+
+pub returns-in_err-put_end : goal.returns-in_err-put_end
+returns-in_err-put_end g c = rw (err_from_is_err_and c.from_residual-in_err-put_end.result c.from_residual-in_err-put_end.ensures.1).1 tt

@@ -1,5 +1,5 @@
 use Rattle.std.proofs.Common.{◌++◌, codes, string_bytes}
-use Rattle.std.proofs.lemmas.Result.{on_ok_weaker}
+use Rattle.std.proofs.lemmas.Result.{err_from_is_err_and, on_ok_weaker}
 use Rattle.hlc_figures.specs.Head.{description_begins, description_text}
 use Rattle.hlc_svg.proofs.Added.{then_added}
 use Rattle.hlc_figures.proofs.head.put_description.Goals as goal
@@ -16,3 +16,9 @@ returns g c =
     on_ok_weaker c.put.result (λ e.
     then_added old one new begins (legend ++ codes "</desc>\n") c.in_ok-put_description_start.ensures
     (then_added one two new legend (codes "</desc>\n") c.in_ok-put_legend.ensures e)) c.put.ensures
+
+pub returns-in_err-put_description_start : goal.returns-in_err-put_description_start
+returns-in_err-put_description_start g c = rw (err_from_is_err_and c.from_residual.result c.from_residual.ensures.1).1 tt
+
+pub returns-in_err-put_legend : goal.returns-in_err-put_legend
+returns-in_err-put_legend g c = rw (err_from_is_err_and c.from_residual-in_err-put_legend.result c.from_residual-in_err-put_legend.ensures.1).1 tt

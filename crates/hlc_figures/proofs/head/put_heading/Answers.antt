@@ -1,5 +1,5 @@
 use Rattle.std.proofs.Common.{◌∙◌, ◌++◌, ℕ, ap, codes, string_bytes}
-use Rattle.std.proofs.lemmas.Result.{on_ok_weaker}
+use Rattle.std.proofs.lemmas.Result.{err_from_is_err_and, on_ok_weaker}
 use Rattle.hlc_figures.specs.Columns.{column_x}
 use Rattle.hlc_figures.specs.Head.{heading_begins, heading_text}
 use Rattle.hlc_svg.specs.declared.frame.TheConstants.{HEADING_Y}
@@ -20,3 +20,9 @@ returns g c =
     on_ok_weaker c.put.result (λ e.
     then_added old one new begins (heading ++ codes "</text>") begun
     (then_added one two new heading (codes "</text>") c.in_ok-put_heading.ensures e)) c.put.ensures
+
+pub returns-in_err-put_begin : goal.returns-in_err-put_begin
+returns-in_err-put_begin g c = rw (err_from_is_err_and c.from_residual.result c.from_residual.ensures.1).1 tt
+
+pub returns-in_err-put_heading : goal.returns-in_err-put_heading
+returns-in_err-put_heading g c = rw (err_from_is_err_and c.from_residual-in_err-put_heading.result c.from_residual-in_err-put_heading.ensures.1).1 tt

@@ -1,5 +1,5 @@
 use Rattle.std.proofs.Common.{◌≡◌, codes, arith}
-use Rattle.std.proofs.lemmas.Result.{on_ok_weaker}
+use Rattle.std.proofs.lemmas.Result.{err_from_is_err_and, on_ok_weaker}
 use Rattle.hlc_figures.specs.Head.{heading_of, heading_text}
 use Rattle.hlc_figures.proofs.Cells.{cells_added, cells_ended}
 use Rattle.hlc_figures.proofs.head.put_headings.Goals as goal
@@ -16,3 +16,6 @@ returns g c =
     on_ok_weaker c.put.result
     (λ e. cells_ended heading_text (heading_of of c.args.scene.now.frame) c.loop-column.column of.columns _ _ _ (codes "\n") all c.loop-column.invariant e)
     c.put.ensures
+
+pub returns-in_err-put_heading : goal.returns-in_err-put_heading
+returns-in_err-put_heading g c = rw (err_from_is_err_and c.from_residual.result c.from_residual.ensures.1).1 tt

@@ -1,4 +1,5 @@
 use Rattle.std.proofs.Common.{◌≡◌, ◌∙◌, ◌++◌, ℕ, ap, arith, flat_map, string_bytes}
+use Rattle.std.proofs.lemmas.Result.{err_from_is_err_and}
 use Rattle.hlc_causality.specs.Places.{places_below}
 use Rattle.hlc_figures.specs.Title.{fact_text}
 use Rattle.hlc_figures.proofs.Cells.{cells_added}
@@ -14,3 +15,6 @@ returns g c =
     let of = g.S.Subject.content c.args.subject.now in
     let all : c.loop-column.column ≡ of.columns = omega (arith, c.columns-column-end.ensures) in
     c.loop-column.invariant ∙ ap (λ (n : ℕ). string_bytes c.args.text.now ++ flat_map (fact_text of c.args.event.0) (places_below n)) all
+
+pub returns-in_err-put_fact : goal.returns-in_err-put_fact
+returns-in_err-put_fact g c = rw (err_from_is_err_and c.from_residual.result c.from_residual.ensures.1).1 tt

@@ -1,5 +1,5 @@
 use Rattle.std.proofs.Common.{◌∙◌, ◌++◌, ℕ, ap, string_bytes}
-use Rattle.std.proofs.lemmas.Result.{on_ok_weaker}
+use Rattle.std.proofs.lemmas.Result.{err_from_is_err_and, on_ok_weaker}
 use Rattle.hlc_stamp.specs.Order.{Pair}
 use Rattle.hlc_causality.specs.Assignment.{pair_at}
 use Rattle.hlc_causality.specs.Causality.{SkeletonEvent, skeleton_at}
@@ -23,3 +23,6 @@ returns g c =
     then_added old one new (stamp_begins p) (drift_text p.l (skeleton_at of.events e).reading) begun
     (is ∙ ap (λ (q : Pair). one ++ drift_text q.l kept.result.reading) kept.ensures.stamp
     ∙ ap (λ (n : ℕ). one ++ drift_text p.l n) reading)) c.put_drift.ensures
+
+pub returns-in_err-put_stamp : goal.returns-in_err-put_stamp
+returns-in_err-put_stamp g c = rw (err_from_is_err_and c.from_residual.result c.from_residual.ensures.1).1 tt

@@ -1,5 +1,5 @@
 use Rattle.std.proofs.Common.{◌∙◌, ◌++◌, ℕ, ap, codes, string_bytes}
-use Rattle.std.proofs.lemmas.Result.{on_ok_weaker}
+use Rattle.std.proofs.lemmas.Result.{err_from_is_err_and, on_ok_weaker}
 use Rattle.hlc_figures.specs.Content.{node_at}
 use Rattle.hlc_figures.specs.Title.{place_begins, place_text}
 use Rattle.hlc_svg.proofs.Added.{then_added}
@@ -19,3 +19,9 @@ returns g c =
     on_ok_weaker c.put.result (λ is.
     then_added old one new (place_begins of e) (name ++ codes "\n") c.in_ok-put_start.ensures
     (then_added one two new name (codes "\n") named is)) c.put.ensures
+
+pub returns-in_err-put_start : goal.returns-in_err-put_start
+returns-in_err-put_start g c = rw (err_from_is_err_and c.from_residual.result c.from_residual.ensures.1).1 tt
+
+pub returns-in_err-put_name : goal.returns-in_err-put_name
+returns-in_err-put_name g c = rw (err_from_is_err_and c.from_residual-in_err-put_name.result c.from_residual-in_err-put_name.ensures.1).1 tt

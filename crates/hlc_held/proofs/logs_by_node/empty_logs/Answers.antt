@@ -1,4 +1,5 @@
 use Rattle.std.proofs.Common.{◌≡◌, ◌∙◌, ◌+◌, ℕ, [], List, ap, subst, sym}
+use Rattle.std.proofs.lemmas.Result.{err_from_is_err_and}
 use Rattle.std.specs.declared.alloc.Global.{Global}
 use Rattle.std.specs.declared.vec.Vec.{Vec}
 use Rattle.hlc_held.specs.declared.logged.Logged.{Logged}
@@ -17,3 +18,6 @@ loop-node-preserved c = (
       (log_at-pushed n c.loop-node.logs.items c.new.result c.new.ensures.items (c.loop-node.invariant.1 n)),
   c.push_reserved.ensures.capacity ∙ c.loop-node.invariant.2,
 )
+
+pub returns-in_err-logs : goal.returns-in_err-logs
+returns-in_err-logs c = rw (err_from_is_err_and c.from_residual.result c.from_residual.ensures.1).1 record { one_each = tt; empty = tt }

@@ -1,6 +1,7 @@
 use Rattle.std.proofs.Common.{◌≡◌, ◌∙◌, ◌+◌, [], ◌∷◌, ◌++◌, arith, length-append}
 use Rattle.std.specs.Prelude.{sum_by}
 use Rattle.std.proofs.lemmas.List.Sums.{sum_by_push}
+use Rattle.std.proofs.lemmas.Result.{err_from_is_err_and}
 use Rattle.hlc_held.specs.Seats.{NodeLog, act_count, log_at}
 use Rattle.hlc_held.proofs.LogFacts.{put_more}
 use Rattle.hlc_held.proofs.logs_by_node.logs_of.Goals as goal
@@ -21,3 +22,8 @@ loop-seat-preserved g c =
 
 pub take_in-requires : goal.take_in-requires
 take_in-requires g c = c.loop-seat.invariant.0 ∙ c.requires.nodes
+
+pub returns-in_err-logs : goal.returns-in_err-logs
+returns-in_err-logs g c =
+    let from = err_from_is_err_and c.from_residual.result c.from_residual.ensures.1 in
+    rw from.1 record { one_each = tt; logs = tt; parts = tt; counted = tt }

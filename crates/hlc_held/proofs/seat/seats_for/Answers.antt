@@ -1,5 +1,6 @@
 use Rattle.std.proofs.Common.{◌≡◌, ◌∙◌, List, [], ap, arith, refl, sym}
 use Rattle.std.proofs.lemmas.List.FromFn.{map-range_with_len_more}
+use Rattle.std.proofs.lemmas.Result.{err_from_is_err_and}
 use Rattle.hlc_held.specs.LogEntry.{log_of}
 use Rattle.hlc_held.specs.declared.logged.Logged.{Logged}
 use Rattle.hlc_held.specs.Seats.{act_count, fresh_seats, node_log}
@@ -39,3 +40,6 @@ returns-clause-seats g c =
 
 pub returns-clause-parts : goal.returns-clause-parts
 returns-clause-parts g c = let parts = c.loop-node.invariant.0 in omega (arith, parts, c.loop-node-test.false, c.loop-node.auto.node-end)
+
+pub returns-in_err-seats : goal.returns-in_err-seats
+returns-in_err-seats g c = rw (err_from_is_err_and c.from_residual.result c.from_residual.ensures.1).1 record { seats = tt; parts = tt; nothing_counted = tt }

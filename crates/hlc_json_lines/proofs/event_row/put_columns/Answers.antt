@@ -14,4 +14,4 @@ loop-column-preserved c =
     let at = c.loop-column.column-index in
     let within : at < length event_columns = omega arith in
     let added = c.in_ok-put_column.ensures in
-    rw c.loop-column.invariant at added ∙ fields_text-next c.args.row.now.items (column_field c.args.rules.now (view c.args.value.now)) event_columns at _ within
+    rw c.loop-column.invariant at added ∙ fields_text-next c.args.row.now.items (column_field c.args.event.rules.now c.args.event.word (view c.args.event.value.now)) event_columns at _ within

@@ -7,4 +7,4 @@ use Rattle.hlc_json_lines.proofs.event_row.put_columns.Given as goal
 
 abbrev pub invariant-loop-column : goal.invariant-loop-column
 invariant-loop-column l =
-    l.row.items ≡ l.fn.row.items ++ fields_text row_setup (column_fields l.rules (view l.value) (take l.column-index event_columns))
+    l.row.items ≡ l.fn.row.items ++ fields_text row_setup (column_fields l.event.rules.now l.event.word (view l.event.value.now) (take l.column-index event_columns))

@@ -10,11 +10,11 @@ use Rattle.hlc_json_lines.proofs.event_row.put_event.Goals as goal
 
 pub returns : goal.returns
 returns c =
-    let value = view c.args.value.now in
-    let fields = fields_text row_setup (column_fields c.args.rules.now value event_columns) in
+    let event = c.args.event in
+    let fields = fields_text row_setup (column_fields event.rules.now event.word (view event.value.now) event_columns) in
     let word = rw c.text.ensures at c.in_ok-extend_from_slice.ensures.items in
     let grown = c.in_ok-put_columns.ensures ∙ ap (λ (t : List ℕ). t ++ fields) word in
     let last = c.extend_from_slice-2 in
     let closed = on_ok-added last.result _ last.new.self.items _ (10 ∷ []) last.ensures.items refl in
     on_ok_weaker last.result
-    (λ items. items ∙ ap (λ (t : List ℕ). t ++ 10 ∷ []) grown ∙ event-row c.args.row.now.items c.args.rules.now value c.args.word) closed
+    (λ items. items ∙ ap (λ (t : List ℕ). t ++ 10 ∷ []) grown ∙ event-row c.args.row.now.items event.rules.now (view event.value.now) event.word) closed

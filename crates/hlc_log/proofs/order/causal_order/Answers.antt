@@ -6,7 +6,6 @@ use Rattle.hlc_causality.specs.Places.{places_below}
 use Rattle.hlc_log.specs.CausalOrder.{IsCausalOrder}
 use Rattle.hlc_log.specs.Events.{IsNumbered}
 use Rattle.hlc_log.proofs.LoggedOrders.{logged_is_causal}
-use Rattle.hlc_log.proofs.Numbered.{node_below}
 use Rattle.hlc_log.proofs.Placements.{all_placed, first_front_waits}
 use Rattle.hlc_log.proofs.SentMessages.{each_once}
 use Rattle.hlc_log.proofs.order.causal_order.Goals as goal
@@ -31,14 +30,13 @@ returns-in-None-clause-order c =
     let events = c.args.log.now.events in
     let placing = c.place_all.new.self in
     subst (λ (ids : List EventId). IsCausalOrder events (places_of ids)) (sym c.into_order.ensures)
-    (all_placed events (node_below c.args.messages events c.requires) placing.next.items placing.fronts (places_of placing.order.items)
-    c.place_all.ensures.placing c.in-None.ensures)
+    (all_placed events placing.next.items placing.fronts.items (places_of placing.order.items) c.in_ok-place_all.ensures.placing c.in-None.ensures)
 
 pub returns-clause-fault : goal.returns-clause-fault
 returns-clause-fault c =
     let events = c.args.log.now.events in
     let placing = c.place_all.new.self in (
       c.in_ok-find_unsent.ensures,
-      first_front_waits events (node_below c.args.messages events c.requires) placing.next.items placing.fronts (places_of placing.order.items)
-          c.place_all.ensures.placing c.place_all.ensures.stuck c.in-Some.first c.in-Some.ensures,
+      first_front_waits events placing.next.items placing.fronts.items (places_of placing.order.items) c.in_ok-place_all.ensures.placing
+          c.in_ok-place_all.ensures.stuck c.in-Some.first c.in-Some.ensures,
     )

@@ -1,7 +1,9 @@
-use Rattle.std.proofs.Common.{◌≡◌, ◌∙◌, ℕ, ap, length, map, arith, subst}
+use Rattle.std.proofs.Common.{◌≡◌, ◌∙◌, ℕ, ◌<◌, ap, length, map, arith, subst}
+use Rattle.std.proofs.lemmas.List.{get_or_default}
 use Rattle.hlc_causality.specs.Places.{places_below}
 use Rattle.hlc_csv.specs.Rows.{AddsText, text_of}
 use Rattle.hlc_log_audit.specs.Report.{node_row}
+use Rattle.hlc_log_audit.specs.Tally.{no_tally}
 use Rattle.hlc_log_audit.specs.declared.tally.NodeTally.{NodeTally}
 use Rattle.hlc_log_audit.proofs.Tallies.{all_events_counted}
 use Rattle.hlc_log_audit.proofs.RowsAdded.{adds_none, adds_row_of_place}
@@ -10,14 +12,21 @@ use Rattle.hlc_log_audit.proofs.nodes.push_nodes.Goals as goal
 pub push_node-requires-clause-events : goal.push_node-requires-clause-events
 push_node-requires-clause-events g c =
     let log = c.args.log.now in
-    let small = c.requires.nodes in
-    let is = c.tally_nodes-tallies.ensures.each c.loop-node.node (omega (arith, c.loop-node-test.true, c.len-node-end.ensures.len)) in
+    let within : c.loop-node.node < log.nodes = omega (arith, c.requires.nodes, c.loop-node-test.true, c.len-node-end.ensures.len) in
+    let tallies = c.in_ok-tallies.ensures in
+    let size = tallies.nodes in
+    let told = c.index-tally.ensures ∙ get_or_default c.in_ok-tallies.tallies.items c.loop-node.node c.index-tally.result.now no_tally (omega arith) in
+    let is = told ∙ tallies.each c.loop-node.node within in
     ap (λ (tally : NodeTally). tally.events) is ∙ all_events_counted log c.requires.ordered c.loop-node.node
 
 pub push_node-requires-clause-furthest : goal.push_node-requires-clause-furthest
 push_node-requires-clause-furthest g c =
-    let small = c.requires.nodes in
-    let is = c.tally_nodes-tallies.ensures.each c.loop-node.node (omega (arith, c.loop-node-test.true, c.len-node-end.ensures.len)) in
+    let log = c.args.log.now in
+    let within : c.loop-node.node < log.nodes = omega (arith, c.requires.nodes, c.loop-node-test.true, c.len-node-end.ensures.len) in
+    let tallies = c.in_ok-tallies.ensures in
+    let size = tallies.nodes in
+    let told = c.index-tally.ensures ∙ get_or_default c.in_ok-tallies.tallies.items c.loop-node.node c.index-tally.result.now no_tally (omega arith) in
+    let is = told ∙ tallies.each c.loop-node.node within in
     ap (λ (tally : NodeTally). tally.furthest) is
 
 pub loop-node-init : goal.loop-node-init

@@ -12,7 +12,7 @@ returns-then-ahead-limit c =
     let place = c.args.place in
     let ahead = c.claimed_ahead-ahead.result in
     let is_ahead : ahead ≡ claimed_ahead (event_at events place.0) = c.claimed_ahead-ahead.ensures ∙ ap claimed_ahead c.at.ensures in
-    overs_without c.args.limit events place c.requires.exists ahead is_ahead c.args.overs.now c.if-ahead-limit.true c.requires.before
+    overs_without c.args.limit events place c.args.log.now.nodes c.requires.exists ahead is_ahead c.args.overs.now c.if-ahead-limit.true c.requires.before
 
 pub returns : goal.returns
 returns c =
@@ -22,6 +22,6 @@ returns c =
     let node = c.node_at-node.result.0 in
     let ahead = c.claimed_ahead-ahead.result in
     let is_ahead : ahead ≡ claimed_ahead (event_at events place.0) = c.claimed_ahead-ahead.ensures ∙ ap claimed_ahead c.at.ensures in
-    subst (λ (over : Over). AreOversBefore c.args.limit events (place.0 + 1) (slice_set overs node (Some over))) (sym c.with_claim.ensures)
-    (overs_with c.args.limit events place c.requires.exists ahead is_ahead overs node c.node_at-node.ensures.node c.node_at-node.ensures.small
+    subst (λ (over : Over). AreOversBefore c.args.limit c.args.log.now.nodes events (place.0 + 1) (slice_set overs node (Some over))) (sym c.with_claim.ensures)
+    (overs_with c.args.limit events place c.args.log.now.nodes c.requires.exists ahead is_ahead overs node c.node_at-node.ensures.node c.node_at-node.ensures.exists
     c.if-ahead-limit.false c.requires.before)

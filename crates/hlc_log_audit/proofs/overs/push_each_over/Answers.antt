@@ -1,4 +1,4 @@
-use Rattle.std.proofs.Common.{◌≡◌, ℕ, List, None, ap, length, arith, subst}
+use Rattle.std.proofs.Common.{◌≡◌, ◌<◌, ℕ, List, None, ap, length, arith, subst}
 use Rattle.std.specs.Prelude.{slice_index_or}
 use Rattle.std.specs.List.{flat_map}
 use Rattle.hlc_causality.specs.Places.{places_below}
@@ -20,7 +20,9 @@ loop-node-preserved g c =
 pub push_if_over-requires : goal.push_if_over-requires
 push_if_over-requires g c =
     let node = c.loop-node.node in
-    names_places c.args.limit c.args.log.now.log node (slice_index_or c.args.overs.now node None) (c.requires.each node (omega arith))
+    let names = ap (λ (names : List (List ℕ)). length names) c.nodes.ensures.value in
+    let within : node < length c.args.log.now.nodes = omega (arith, c.loop-node-test.true, c.len-node-end.ensures, names) in
+    names_places c.args.limit c.args.log.now.log node (slice_index_or c.args.overs.now node None) (c.requires.each node within)
 
 pub returns : goal.returns
 returns g c =

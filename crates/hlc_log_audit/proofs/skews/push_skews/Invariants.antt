@@ -1,10 +1,11 @@
-use Rattle.std.proofs.Common.{List}
-use Rattle.hlc_csv.specs.Rows.{AddsText, Fields, text_of}
-use Rattle.hlc_log_audit.specs.Report.{AreSkewRowsBefore, joined}
+use Rattle.std.proofs.Common.{◌≡◌, ◌++◌, map}
+use Rattle.hlc_csv.specs.Rows.{AddsText, text_of}
+use Rattle.hlc_log_report.specs.Skew.{Skews}
+use Rattle.hlc_log_audit.specs.Report.{skew_row}
 use Rattle.hlc_log_audit.proofs.skews.push_skews.Given as goal
 
--- the skews to the nodes before this one have their rows
-abbrev pub invariant-loop-to : goal.invariant-loop-to
-invariant-loop-to g l =
-    (parts : List (List Fields)) × AreSkewRowsBefore l.nodes l.log l.to parts
-    × AddsText (g.W.Write.contents l.fn.writer) (g.W.Write.contents l.writer) l.fn.rows l.rows (text_of (joined parts))
+-- the skews before those that are left have their rows
+abbrev pub invariant-loop-between : goal.invariant-loop-between
+invariant-loop-between g l =
+    (told : Skews) × (told ++ l.between-iterator ≡ l.skews.entries)
+    × AddsText (g.W.Write.contents l.fn.writer) (g.W.Write.contents l.writer) l.fn.rows l.rows (text_of (map (skew_row l.nodes l.log) told))

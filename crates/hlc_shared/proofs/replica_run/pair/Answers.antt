@@ -1,5 +1,6 @@
 use Rattle.std.proofs.Common.{◌≡◌, ◌∙◌, ◌++◌, ◌∷◌, [], ◌⊎◌, List, ap, append_assoc, arith, inl, inr, length, length-append, map, sym}
 use Rattle.std.proofs.lemmas.List.{append-nil, length-map, map-append}
+use Rattle.std.proofs.lemmas.Result.{err_from_is_err_and}
 use Rattle.hlc_shared.specs.declared.replicas.Job.{Job}
 use Rattle.hlc_shared.proofs.replica_run.pair.Goals as goal
 
@@ -65,3 +66,6 @@ returns g c =
     let both = both_taken (λ (job : Job g.row.L.Denot). job.seat) (λ (job : Job g.row.L.Denot). job.steps) c.loop-seat.jobs.items
     left.a.rest.items c.args.seats.items left.b.rest.items c.args.lists.items c.loop-seat.invariant.0 c.loop-seat.invariant.1 same none in
     record { seats = both.0; lists = both.1 }
+
+pub returns-in_err-jobs : goal.returns-in_err-jobs
+returns-in_err-jobs g c = rw (err_from_is_err_and c.from_residual.result c.from_residual.ensures.1).1 record { seats = tt; lists = tt }

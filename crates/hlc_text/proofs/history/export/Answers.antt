@@ -1,5 +1,5 @@
 use Rattle.std.proofs.Common.{◌<◌, ◌≤◌, arith, length}
-use Rattle.std.proofs.lemmas.Result.{on_ok_weaker}
+use Rattle.std.proofs.lemmas.Result.{err_from_is_err_and, on_ok_weaker}
 use Rattle.hlc_text.proofs.ExportFacts.{has_exported-all, has_exported-more, has_exported-none}
 use Rattle.hlc_text.proofs.history.export.Goals as goal
 
@@ -15,3 +15,6 @@ pub returns : goal.returns
 returns g c =
     let all : length c.args.history.now.events ≤ c.loop-event.event = omega arith in
     on_ok_weaker c.finish.result (has_exported-all _ _ _ _ _ _ all c.loop-event.invariant) c.finish.ensures
+
+pub returns-in_err-push_event : goal.returns-in_err-push_event
+returns-in_err-push_event g c = rw (err_from_is_err_and c.from_residual.result c.from_residual.ensures.1).1 tt

@@ -1,4 +1,5 @@
 use Rattle.std.proofs.Common.{◌∙◌}
+use Rattle.std.proofs.lemmas.Result.{err_from_is_err_and}
 use Rattle.hlc_csv.proofs.RowFacts.{text_of-one}
 use Rattle.hlc_text.proofs.TableFacts.{left-more, table_text-more, table_text-whole}
 use Rattle.hlc_text.proofs.reply.push_table.Goals as goal
@@ -24,3 +25,9 @@ pub returns : goal.returns
 returns g c =
     let h = c.loop-key.invariant in
     table_text-whole _ _ _ _ _ _ _ c.args.table.now c.loop-key.key-iterator c.loop-key.yielded h.left c.in-None.ensures.steps.0 h.text
+
+pub returns-in_err-push_numbers : goal.returns-in_err-push_numbers
+returns-in_err-push_numbers g c = rw (err_from_is_err_and c.from_residual.result c.from_residual.ensures.1).1 tt
+
+pub returns-in_err-push_entry : goal.returns-in_err-push_entry
+returns-in_err-push_entry g c = rw (err_from_is_err_and c.from_residual-in_err-push_entry.result c.from_residual-in_err-push_entry.ensures.1).1 tt

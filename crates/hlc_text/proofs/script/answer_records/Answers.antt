@@ -1,4 +1,5 @@
 use Rattle.std.proofs.Common.{◌≡◌, ◌∙◌, ℕ, ◌+◌, None, Some, ap, arith}
+use Rattle.std.proofs.lemmas.Result.{err_from_is_err_and}
 use Rattle.csv.specs.Records.{fields_of}
 use Rattle.hlc_text.proofs.RunFacts.{so_far-ended, so_far-more, so_far-start}
 use Rattle.hlc_text.proofs.script.answer_records.Goals as goal
@@ -29,3 +30,12 @@ pub returns-in-None : goal.returns-in-None
 returns-in-None g c = λ bytes start.
     let full : c.loop-count._count ≡ c.args.most = omega arith in
     so_far-ended _ _ c.read_next-2.new.input bytes _ _ _ _ _ _ (fields_of c.read_next-2.new.fields) None (c.loop-count.invariant.2 bytes start) full (rw c.in-None.is at c.in_ok-end-2.ensures)
+
+pub returns-in_err-end : goal.returns-in_err-end
+returns-in_err-end g c = rw (err_from_is_err_and c.from_residual.result c.from_residual.ensures.1).1 tt
+
+pub returns-in_err-answer : goal.returns-in_err-answer
+returns-in_err-answer g c = rw (err_from_is_err_and c.from_residual-in_err-answer.result c.from_residual-in_err-answer.ensures.1).1 tt
+
+pub returns-in_err-end-2 : goal.returns-in_err-end-2
+returns-in_err-end-2 g c = rw (err_from_is_err_and c.from_residual-in_err-end-2.result c.from_residual-in_err-end-2.ensures.1).1 tt

@@ -1,5 +1,5 @@
 use Rattle.std.proofs.Common.{◌≡◌, ◌∙◌, ℕ, ◌<◌, arith, subst}
-use Rattle.std.proofs.lemmas.Result.{on_ok_weaker}
+use Rattle.std.proofs.lemmas.Result.{err_from_is_err_and, on_ok_weaker}
 use Rattle.hlc_request.specs.Timed.{requests_in}
 use Rattle.hlc_text.specs.Steps.{rounds_in}
 use Rattle.hlc_text.proofs.StepFacts.{has_printed-all, has_printed-more, has_printed-none, round_within}
@@ -24,3 +24,6 @@ returns g c =
     on_ok_weaker c.finish.result
     (has_printed-all c.args.lists.now c.loop-round.round _ _ _ _ (last ∙ c.rounds-round-end.ensures) c.loop-round.invariant)
     c.finish.ensures
+
+pub returns-in_err-push_round : goal.returns-in_err-push_round
+returns-in_err-push_round g c = rw (err_from_is_err_and c.from_residual.result c.from_residual.ensures.1).1 tt

@@ -1,4 +1,5 @@
 use Rattle.std.proofs.Common.{◌<◌, ◌≤◌, arith, length}
+use Rattle.std.proofs.lemmas.Result.{err_from_is_err_and}
 use Rattle.hlc_text.proofs.StepFacts.{has_round-all, has_round-more, has_round-none}
 use Rattle.hlc_text.proofs.steps.push_round.Goals as goal
 
@@ -17,3 +18,6 @@ pub returns : goal.returns
 returns g c =
     let all : length c.args.lists.now ≤ c.loop-node.node = omega arith in
     has_round-all c.args.lists.now c.args.round c.loop-node.node _ _ _ _ all c.loop-node.invariant
+
+pub returns-in_err-push_step : goal.returns-in_err-push_step
+returns-in_err-push_step g c = rw (err_from_is_err_and c.from_residual.result c.from_residual.ensures.1).1 tt

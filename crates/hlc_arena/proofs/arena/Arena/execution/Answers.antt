@@ -17,3 +17,6 @@ returns-clause-least c =
     subst (λ (s : Skeleton). IsLeast s (stamps_of c.args.self.now.events) ↔ HasLeastClockStamps x) (sym events)
     (subst (λ (ps : List Pair). IsLeast x.events ps ↔ HasLeastClockStamps x) (sym stamps)
     (least_by_readings x.rules x.events kept.ticking x.stamps))
+
+pub returns-clause-few : goal.returns-clause-few
+returns-clause-few c = c.self.invariant.well_formed.few_nodes

@@ -1,4 +1,5 @@
 use Rattle.std.proofs.Common.{◌-◌, arith, length, refl}
+use Rattle.std.proofs.lemmas.Result.{err_from_is_err_and}
 use Rattle.csv.specs.Records.{fields_of}
 use Rattle.hlc_csv.proofs.ParserFacts.{ends_record-at, goes_on-more}
 use Rattle.hlc_csv.proofs.RunFacts.{ends_within, goes_on-after, goes_on-none}
@@ -36,3 +37,9 @@ loop-place-preserved c =
       c.in_ok-take_byte.ensures.none_partial,
       omega arith,
     )
+
+pub returns-in_err-run : goal.returns-in_err-run
+returns-in_err-run c = rw (err_from_is_err_and c.from_residual.result c.from_residual.ensures.1).1 record { taken = tt; used = tt; none_partial = tt }
+
+pub returns-in_err-take_byte : goal.returns-in_err-take_byte
+returns-in_err-take_byte c = rw (err_from_is_err_and c.from_residual-in_err-take_byte.result c.from_residual-in_err-take_byte.ensures.1).1 record { taken = tt; used = tt; none_partial = tt }

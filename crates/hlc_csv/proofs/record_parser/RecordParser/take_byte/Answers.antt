@@ -1,4 +1,5 @@
 use Rattle.std.proofs.Common.{◌∙◌, ◌∷◌, [], ◌++◌, ap, refl, sym}
+use Rattle.std.proofs.lemmas.Result.{err_from_is_err_and}
 use Rattle.csv.specs.Records.{fields_of}
 use Rattle.hlc_csv.specs.ParserState.{csv_step}
 use Rattle.hlc_csv.specs.declared.parser_state.ParserAction.{ParserAction}
@@ -53,3 +54,12 @@ returns-in_ok-end_field-in-EndRecord-clause-taken c =
       began = c.count.ensures.began;
       after_cr = c.count.ensures.after_cr;
     })
+
+pub returns-in_err-push-in-Copy : goal.returns-in_err-push-in-Copy
+returns-in_err-push-in-Copy c = rw (err_from_is_err_and c.from_residual.result c.from_residual.ensures.1).1 record { taken = tt; none_partial = tt }
+
+pub returns-in_err-end_field-in-EndField : goal.returns-in_err-end_field-in-EndField
+returns-in_err-end_field-in-EndField c = rw (err_from_is_err_and c.from_residual-in_err-end_field-in-EndField.result c.from_residual-in_err-end_field-in-EndField.ensures.1).1 record { taken = tt; none_partial = tt }
+
+pub returns-in_err-end_field-in-EndRecord : goal.returns-in_err-end_field-in-EndRecord
+returns-in_err-end_field-in-EndRecord c = rw (err_from_is_err_and c.from_residual-in_err-end_field-in-EndRecord.result c.from_residual-in_err-end_field-in-EndRecord.ensures.1).1 record { taken = tt; none_partial = tt }

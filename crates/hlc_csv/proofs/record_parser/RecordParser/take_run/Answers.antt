@@ -1,4 +1,5 @@
 use Rattle.std.proofs.Common.{◌∙◌, ◌==◌, ◌++◌, ◌∷◌, [], List, ℕ, ap, refl, sym, take}
+use Rattle.std.proofs.lemmas.Result.{err_from_is_err_and}
 use Rattle.csv.specs.Records.{fields_of}
 use Rattle.hlc_csv.proofs.RunFacts.{field_taken, no_bytes, takes_run}
 use Rattle.hlc_csv.proofs.record_parser.RecordParser.take_run.Goals as goal
@@ -25,3 +26,9 @@ returns-then-bytes-run-eq44-clause-run c =
       none_after = none;
       fields = c.in_ok-push_field.ensures.fields ∙ ap (λ (p : List ℕ). fields_of c.args.fields.now ++ (p ++ run) ∷ []) c.requires;
     })
+
+pub returns-in_err-push_field : goal.returns-in_err-push_field
+returns-in_err-push_field c = rw (err_from_is_err_and c.from_residual.result c.from_residual.ensures.1).1 record { run = tt; within = tt; none_partial = tt }
+
+pub returns-in_err-extend_from_slice : goal.returns-in_err-extend_from_slice
+returns-in_err-extend_from_slice c = rw (err_from_is_err_and c.from_residual-in_err-extend_from_slice.result c.from_residual-in_err-extend_from_slice.ensures.1).1 record { run = tt; within = tt; none_partial = tt }

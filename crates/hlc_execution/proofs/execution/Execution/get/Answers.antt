@@ -1,5 +1,5 @@
 use Rattle.std.proofs.Common.{◌<◌, arith, refl, subst, sym}
-use Rattle.hlc_stamp.specs.declared.limits.TheConstants.{MAX_NODES}
+use Rattle.std.specs.Prelude.{vec_len}
 use Rattle.hlc_execution.specs.declared.slot.Slot.{Slot}
 use Rattle.hlc_execution.proofs.SlotEvents.{length-events_of_slots, node_is_small}
 use Rattle.hlc_execution.proofs.SlotNeighbours.{event_read, pair_read, slot_previous, slot_send}
@@ -16,8 +16,9 @@ pub returns-clause-node : goal.returns-clause-node
 returns-clause-node c =
     let slots = c.self.inside.slots.items in
     let read = c.in_ok-slot in
-    subst (λ (slot : Slot). slot.node.0 < MAX_NODES) (sym read.ensures.item)
-    (node_is_small slots _ _ _ c.self.invariant.execution c.args.id.0 read.ensures.exists read.slot.now)
+    rw (← c.self.view_is)
+    (subst (λ (slot : Slot). slot.node.0 < vec_len c.self.inside.ends) (sym read.ensures.item)
+    (node_is_small slots _ _ _ c.self.invariant.execution c.args.id.0 read.ensures.exists read.slot.now))
 
 pub returns-in_err-slot : goal.returns-in_err-slot
 returns-in_err-slot c =

@@ -10,7 +10,7 @@ invariant_of-result c =
     let len = c.in_ok-ends.ensures.len in
     record {
       execution = record {
-        few_nodes = omega (arith, c.requires, len);
+        few_nodes = omega (arith, c.ranges.nodes, len);
         small_floors = rw c.new-2.ensures (λ e. tt);
         few = rw c.new.ensures.items (omega arith);
         stamped = rw c.new.ensures.items refl;

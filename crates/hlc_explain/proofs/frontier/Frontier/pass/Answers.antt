@@ -1,9 +1,9 @@
-use Rattle.std.proofs.Common.{◌≡◌, ◌<◌, ◌⊎◌, ◌↔◌, ◌∙◌, ℕ, List, Option, length, inl, inr, arith, refl, subst, sym, ap}
+use Rattle.std.proofs.Common.{◌≡◌, ◌<◌, ◌⊎◌, ◌↔◌, ◌∙◌, ℕ, List, Option, inl, inr, arith, refl, subst, sym, ap}
 use Rattle.hlc_stamp.specs.declared.id.EventId.{EventId}
 use Rattle.hlc_causality.specs.Causality.{IsPrevious, skeleton_at}
 use Rattle.hlc_causality.specs.Neighbours.{NamesPrevious, NamesSend}
 use Rattle.hlc_causality.specs.Past.{IsInPast}
-use Rattle.hlc_explain.specs.Frontier.{IsBehind, IsFrontier}
+use Rattle.hlc_explain.specs.Frontier.{IsBehind}
 use Rattle.hlc_explain.specs.Marks.{IsNamed}
 use Rattle.hlc_explain.specs.declared.frontier.Frontier.{Frontier}
 use Rattle.hlc_explain.proofs.Frontiers.{behind_with_event, frontier_with_event, looked_at, named_past}
@@ -15,9 +15,9 @@ returns-in-Some-clause-rest c e other =
     let m = c.args.self.now.latest.0 in
     let p : NamesPrevious s m c.previous-previous.result = c.previous-previous.ensures in
     let q : NamesSend s m c.send-sent.result = c.send-sent.ensures in
-    let with_sent : List ℕ = c.take_in_send.new.self.ends in
+    let with_sent : List ℕ = c.take_in_send.new.ends in
     let left : ℕ → Type 0 = λ x. IsInPast s x c.in-Some.previous.0 ⊎ IsBehind s with_sent x in
-    let looked = looked_at s c.args.self.now.ends with_sent left m c.previous-previous.result c.send-sent.result p q c.take_in_send.ensures.behind
+    let looked = looked_at s c.args.ends.now with_sent left m c.previous-previous.result c.send-sent.result p q c.take_in_send.ensures.behind
     (λ x. let named = named_past s c.previous-previous.result c.in-Some.previous x c.in-Some.is in (
       λ h. elim h [ inl past ↦ inr (named.1 past) | inr behind ↦ inl behind ],
       λ h. elim h [ inl behind ↦ inr behind | inr past ↦ inl (named.0 past) ],
@@ -30,9 +30,9 @@ returns-in-None-clause-rest c e other =
     let m = c.args.self.now.latest.0 in
     let p : NamesPrevious s m c.previous-previous.result = c.previous-previous.ensures in
     let q : NamesSend s m c.send-sent.result = c.send-sent.ensures in
-    let with_sent : List ℕ = c.take_in_send.new.self.ends in
+    let with_sent : List ℕ = c.take_in_send.new.ends in
     let left : ℕ → Type 0 = λ x. IsBehind s with_sent x in
-    let looked = looked_at s c.args.self.now.ends with_sent left m c.previous-previous.result c.send-sent.result p q c.take_in_send.ensures.behind
+    let looked = looked_at s c.args.ends.now with_sent left m c.previous-previous.result c.send-sent.result p q c.take_in_send.ensures.behind
     (λ x. (
       λ h. inl h,
       λ h. elim h [ inl behind ↦ behind | inr (d, named, past) ↦ absurd (subst (λ (o : Option EventId). IsNamed o d) c.in-None.is named) ],
@@ -43,8 +43,7 @@ returns-in-None-clause-rest c e other =
 pub take_in-requires-clause-node : goal.take_in-requires-clause-node
 take_in-requires-clause-node c =
     let frontier = c.take_in_send.ensures.frontier in
-    let node = (c.requires.well_formed.each c.take_in_send.new.self.latest.0 frontier.exists).node in
-    let few = c.requires.well_formed.few_nodes in
+    let lt = frontier.has_end c.take_in_send.new.self.latest.0 frontier.exists in
     let at_node = frontier.at_node in
     omega arith
 
@@ -53,25 +52,22 @@ take_latest-requires-clause-frontier c =
     let s = c.args.execution.now.events in
     let m = c.args.self.now.latest.0 in
     let f : Frontier = c.take_in_send.new.self in
+    let ends : List ℕ = c.take_in_send.new.ends in
     let frontier = c.take_in_send.ensures.frontier in
     let latest : f.latest.0 ≡ m = ap (λ (id : EventId). id.0) c.take_in_send.ensures.latest in
     let p : NamesPrevious s m c.previous-previous.result = c.previous-previous.ensures in
     let before : IsPrevious s c.in-Some-2.previous.0 m = subst (λ (o : Option EventId). NamesPrevious s m o) c.in-Some-2.is p in
     let earlier : c.in-Some-2.previous.0 < f.latest.0 = let lt = before.at_node.earlier in omega arith in
     let at_node = before.at_node.same_node ∙ ap (λ (x : ℕ). (skeleton_at s x).node) (sym latest) ∙ frontier.at_node in
-    let node = (c.requires.well_formed.each f.latest.0 frontier.exists).node in
-    let few = c.requires.well_formed.few_nodes in
-    let same = frontier.at_node in
-    let size = frontier.size in
-    let lt : f.node.0 < length f.ends = omega arith in
-    subst (λ (g : Frontier). IsFrontier s g) (sym c.take_in.ensures)
-    (frontier_with_event s f f.node.0 c.in-Some-2.previous.0 frontier earlier at_node lt)
+    rw (c.take_in.ensures.ends, c.take_in.ensures.frontier)
+    (frontier_with_event s ends f f.node.0 c.in-Some-2.previous.0 frontier earlier at_node)
 
 pub returns-in-Some-2-clause-rest : goal.returns-in-Some-2-clause-rest
 returns-in-Some-2-clause-rest c e other =
     let s = c.args.execution.now.events in
     let m = c.args.self.now.latest.0 in
     let f : Frontier = c.take_in_send.new.self in
+    let ends : List ℕ = c.take_in_send.new.ends in
     let frontier = c.take_in_send.ensures.frontier in
     let latest : f.latest.0 ≡ m = ap (λ (id : EventId). id.0) c.take_in_send.ensures.latest in
     let p : NamesPrevious s m c.previous-previous.result = c.previous-previous.ensures in
@@ -80,17 +76,12 @@ returns-in-Some-2-clause-rest c e other =
     let before : IsPrevious s d m = subst (λ (o : Option EventId). NamesPrevious s m o) c.in-Some-2.is p in
     let earlier : d < f.latest.0 = let lt = before.at_node.earlier in omega arith in
     let at_node = before.at_node.same_node ∙ ap (λ (x : ℕ). (skeleton_at s x).node) (sym latest) ∙ frontier.at_node in
-    let node = (c.requires.well_formed.each f.latest.0 frontier.exists).node in
-    let few = c.requires.well_formed.few_nodes in
-    let same = frontier.at_node in
-    let size = frontier.size in
-    let lt : f.node.0 < length f.ends = omega arith in
-    let with_both : List ℕ = c.take_in.new.self.ends in
-    let looked = looked_at s c.args.self.now.ends f.ends (λ x. IsBehind s with_both x) m c.previous-previous.result c.send-sent.result p q c.take_in_send.ensures.behind
+    let with_both : List ℕ = c.take_in.new.ends in
+    let looked = looked_at s c.args.ends.now ends (λ x. IsBehind s with_both x) m c.previous-previous.result c.send-sent.result p q c.take_in_send.ensures.behind
     (λ x.
     let behind =
-    subst (λ (g : Frontier). IsBehind s g.ends x ↔ (IsBehind s f.ends x ⊎ IsInPast s x d)) (sym c.take_in.ensures)
-    (behind_with_event s f f.node.0 d frontier earlier at_node lt x) in
+    subst (λ (new : List ℕ). IsBehind s new x ↔ (IsBehind s ends x ⊎ IsInPast s x d)) (sym c.take_in.ensures.ends)
+    (behind_with_event s ends f f.node.0 d frontier earlier at_node x) in
     let named = named_past s c.previous-previous.result c.in-Some-2.previous x c.in-Some-2.is in (
       λ h. elim (behind.0 h) [ inl old ↦ inl old | inr past ↦ inr (named.1 past) ],
       λ h. elim h [ inl old ↦ behind.1 (inl old) | inr past ↦ behind.1 (inr (named.0 past)) ],

@@ -1,15 +1,15 @@
-use Rattle.std.proofs.Common.{◌≡◌, ◌≢◌, ℕ, ◌+◌, ◌-◌, ◌<◌, ◌≤◌, List, length, get_or, set, get_or-set_other, get_or-set_same, length-set, arith, refl, ◌∙◌}
+use Rattle.std.proofs.Common.{◌≡◌, ◌≢◌, ℕ, ◌+◌, ◌-◌, ◌<◌, List, length, get_or, set, get_or-set_other, get_or-set_same, length-set, arith, refl, subst}
 use Rattle.std.proofs.lemmas.Bool.{false≢true}
 use Rattle.hlc_causality.specs.Causality.{Skeleton, skeleton_at}
 use Rattle.hlc_explain.specs.Frontier.{AreEnds, last_of}
-use Rattle.hlc_explain.proofs.Frontiers.{behind_is_earlier, behind_taken, ends_of_nodes, ends_taken, last_of_first, taken_is_latest}
+use Rattle.hlc_explain.proofs.Frontiers.{behind_is_earlier, behind_taken, ends_taken, taken_is_latest}
 use Rattle.hlc_explain.proofs.KeptEvents.{node_kept}
 use Rattle.hlc_explain.proofs.frontier.Frontier.take_latest.Goals as goal
 
 pub returns-then-self-eq0-clause-rest : goal.returns-then-self-eq0-clause-rest
 returns-then-self-eq0-clause-rest c e =
     let s = c.args.execution.now.events in
-    let ends : List ℕ = c.args.self.now.ends in
+    let ends : List ℕ = c.args.ends.now in
     let none = c.if-self-eq0.true in
     let last = c.requires.frontier.last_end in
     (λ h. let lt = behind_is_earlier s ends e h in absurd (omega arith), λ h. absurd (false≢true h.0))
@@ -20,7 +20,7 @@ module _ (c : goal.After-self-3-1) where
   s = c.args.execution.now.events
 
   abbrev ends : List ℕ
-  ends = c.args.self.now.ends
+  ends = c.args.ends.now
 
   abbrev n : ℕ
   n = c.unwrap.result.node.0
@@ -37,19 +37,16 @@ module _ (c : goal.After-self-3-1) where
   at_node : (skeleton_at s m).node ≡ n
   at_node = node_kept s m c.get.result c.unwrap.result c.unwrap.ensures c.get.ensures.event
 
-  has_end : n < length ends
-  has_end =
+  exists : m < length s
+  exists =
       let some = c.if-self-eq0.false in
       let frontier = c.requires.frontier in
       let to = frontier.exists in
       let le = frontier.latest in
-      let end = frontier.last_end in
-      let exists : m < length s = omega arith in
-      let node = (c.requires.well_formed.each m exists).node in
-      let is = at_node in
-      let few = c.requires.well_formed.few_nodes in
-      let size = frontier.size in
       omega arith
+
+  has_end : n < length ends
+  has_end = subst (λ (node : ℕ). node < length ends) at_node (c.requires.frontier.has_end m exists)
 
   others : (k : ℕ) → k ≢ n → get_or new k 0 ≡ get_or ends k 0
   others k other = get_or-set_other ends n k 0 0 other
@@ -67,17 +64,14 @@ returns-clause-frontier c =
     let frontier = c.requires.frontier in
     let are_ends : AreEnds (s c) (new c) =
     ends_taken (s c) (ends c) (new c) (n c) (others c) (m c) frontier.are_ends (last c) (at_node c) (none c) in
-    let nodes = c.nodes.ensures in
-    let beyond : (k : ℕ) → c.nodes.result ≤ k → get_or (new c) k 0 ≡ 0 = λ k le.
-    ends_of_nodes c.args.execution.now (new c) c.requires.well_formed are_ends k (omega arith) in
-    let greatest : c.greatest-self.result ≡ last_of (new c) = c.greatest-self.ensures ∙ last_of_first c.nodes.result (new c) beyond in
     let le = taken_is_latest (s c) (ends c) (new c) (n c) (others c) (m c) frontier.are_ends (last c) (at_node c) (none c) in
     let some = c.if-self-eq0.false in
+    let size = length-set (ends c) (n c) 0 in
     record {
-      size = length-set (ends c) (n c) 0 ∙ frontier.size;
-      exists = omega arith;
+      has_end = λ e there. let lt = frontier.has_end e there in omega arith;
+      exists = exists c;
       at_node = at_node c;
       are_ends = are_ends;
-      last_end = greatest;
+      last_end = c.greatest-self.ensures;
       latest = omega arith;
     }

@@ -7,8 +7,8 @@ use Rattle.hlc_log.proofs.placing.Placing.place_all.Goals as goal
 
 pub loop-smaller : goal.loop-smaller
 loop-smaller c =
-    let ids = c.go_round.new.self.order.items in
-    let le = length-order-le c.args.log.now.events (places_of ids) c.go_round.ensures.placing.causal in
+    let ids = c.place_some.new.self.order.items in
+    let le = length-order-le c.args.log.now.events (places_of ids) c.in_ok-place_some.ensures.placing.causal in
     let size : length (places_of ids) ≡ length ids = length-map ids (λ (id : EventId). id.0) in
-    let grows = c.go_round.ensures.grows c.loop-test.true in
+    let grows = c.in_ok-place_some.ensures.grows c.if-branch.true in
     omega arith

@@ -1,7 +1,7 @@
 use Rattle.std.proofs.Common.{◌≡◌, ◌∙◌, ◌≤◌, ℕ, List, length, arith, subst, sym, ap}
 use Rattle.hlc_stamp.specs.Ids.{places_of}
 use Rattle.hlc_stamp.specs.declared.id.EventId.{EventId}
-use Rattle.hlc_stamp.specs.declared.limits.TheConstants.{MAX_NODES}
+use Rattle.hlc_log.specs.declared.log_event.TheConstants.{MAX_LOG_NODES}
 use Rattle.hlc_log.proofs.CausalOrders.{places_differ}
 use Rattle.hlc_log_report.specs.InOrder.{AreOfNodes, AreParts, ArePositions, EachDiffers, IsExecutionOf, IsGivenStamps, log_in_order}
 use Rattle.hlc_log_report.proofs.Filled.{filled_causal, filled_execution, filled_in_range, filled_of_nodes, filled_sound}
@@ -34,7 +34,7 @@ parts c =
     let positions = c.in_ok-positions.positions.items in
     record {
       few = omega arith;
-      few_nodes = subst (λ (n : ℕ). n ≤ MAX_NODES) (sym c.in_ok-execution.ensures.nodes) c.requires.few;
+      few_nodes = subst (λ (n : ℕ). n ≤ MAX_LOG_NODES) (sym c.in_ok-execution.ensures.nodes) c.requires.few;
       of_nodes =
           filled_of_nodes events more are c.in_ok-execution.execution.nodes
           (subst (λ (n : ℕ). AreOfNodes n events) (sym c.in_ok-execution.ensures.nodes) c.requires.named);

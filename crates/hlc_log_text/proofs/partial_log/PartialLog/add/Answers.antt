@@ -1,7 +1,7 @@
 use Rattle.std.proofs.Common.{◌≡◌, ◌∙◌, ◌<◌, Bor, List, ℕ, [], ◌∷◌, ◌++◌, Option, None, Some, ap, length, refl, subst, sym}
 use Rattle.std.specs.Prelude.{option_map}
 use Rattle.std.proofs.lemmas.Option.{get_or_from_slice_get, slice_get_within}
-use Rattle.hlc_stamp.specs.declared.limits.TheConstants.{MAX_NODES}
+use Rattle.hlc_log.specs.declared.log_event.TheConstants.{MAX_LOG_NODES}
 use Rattle.hlc_log.specs.declared.log_event.LogEvent.{LogEvent}
 use Rattle.hlc_log_text.specs.Labels.{GivesLabel}
 use Rattle.hlc_log_text.specs.LogItem.{events_in}
@@ -33,8 +33,9 @@ returns-in_default c items lines h =
       columns = old.columns;
       hints = c.number_node.new.hints;
       skipped = old.skipped;
+      left_out = old.left_out;
     } in (
-      subst (λ (names : List (List ℕ)). MAX_NODES < length names) names over.0,
+      subst (λ (names : List (List ℕ)). MAX_LOG_NODES < length names) names over.0,
       subst (λ (nodes : List (List ℕ)). IsPartialLog items lines (now nodes)) (sym over.1) (record {
         held = h.held;
         messages = h.messages;
@@ -47,6 +48,7 @@ returns-in_default c items lines h =
         last = h.last;
         senders = h.senders;
         skipped = h.skipped;
+        left_out = h.left_out;
       }),
     )
 
@@ -101,6 +103,7 @@ returns c items lines h =
       columns = c.args.self.now.columns;
       hints = c.number_node.new.hints;
       skipped = c.args.self.now.skipped;
+      left_out = c.args.self.now.left_out;
     } in
     is_reading-more items lines c.args.self.now new (named c) (event c) h record {
       pushed = c.in_ok-push.ensures.events;
@@ -118,4 +121,5 @@ returns c items lines h =
       next = c.requires.line;
       columns = refl;
       skipped = refl;
+      left_out = refl;
     }

@@ -2,7 +2,7 @@ use Rattle.std.proofs.Common.{refl}
 use Rattle.hlc_log_text.specs.LogItem.{Asks}
 use Rattle.hlc_log_text.specs.Question.{plain_asked}
 use Rattle.hlc_log_text.specs.declared.partial_log.PartialLog.{PartialLog}
-use Rattle.hlc_log_text.proofs.LogFacts.{asked_all, is_aside-more, skipped_kept}
+use Rattle.hlc_log_text.proofs.LogFacts.{asked_all, is_aside-more, left_out_kept, skipped_kept}
 use Rattle.hlc_log_text.proofs.partial_log.PartialLog.ask.Goals as goal
 
 pub returns : goal.returns
@@ -19,6 +19,7 @@ returns c items lines h =
       columns = old.columns;
       hints = old.hints;
       skipped = old.skipped;
+      left_out = old.left_out;
     } in
     is_aside-more items lines old new (Asks (plain_asked c.args.question)) h record {
       log = refl;
@@ -30,6 +31,7 @@ returns c items lines h =
       next = c.requires;
       columns = refl;
       skipped = skipped_kept items lines old new c.args.question h c.args.line;
+      left_out = left_out_kept items lines old new c.args.question h c.args.line;
       no_event = refl;
       no_columns = refl;
       tells_nothing = refl;

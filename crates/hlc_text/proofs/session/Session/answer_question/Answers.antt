@@ -1,5 +1,5 @@
 use Rattle.std.proofs.Common.{ap, refl, sym}
-use Rattle.std.proofs.lemmas.Result.{on_ok_weaker}
+use Rattle.std.proofs.lemmas.Result.{err_from_is_err_and, on_ok_weaker}
 use Rattle.hlc_text.specs.Answer.{Answer}
 use Rattle.hlc_text.specs.Reply.{rows_of_reply}
 use Rattle.hlc_text.proofs.AnswerFacts.{gives-same}
@@ -17,3 +17,6 @@ returns-clause-answer g c =
       refused = c.push.ensures.refused;
     })
     c.push.ensures.rows
+
+pub returns-in_err-reply : goal.returns-in_err-reply
+returns-in_err-reply g c = rw (err_from_is_err_and c.from_residual.result c.from_residual.ensures.1).1 record { answer = tt; notes = tt }

@@ -1,0 +1,26 @@
+use crate::bad_log::BadLog;
+
+/// What becomes of the records of a log that are bad. A bad header, and a record with a quotation mark that nothing closes, end the reading always,
+/// since what stands after them can't be told.
+#[derive(Clone, Copy, Debug, PartialEq, Eq)]
+pub enum FaultRule {
+    /// The first one ends the reading, and the input is no log.
+    First,
+    /// They are left out, and told with why they are bad.
+    LeaveOut,
+}
+
+impl FaultRule {
+    ghost use Rattle.std.specs.Prelude.{◌≡◌};
+    ghost use Rattle.hlc_log_text.specs.FaultRule.{leaves_out};
+
+    // Whether a record that is bad for this reason is left out.
+    pub(crate) fn leaves_out(self, why: BadLog) -> bool
+        ensures { result ≡ leaves_out self why }
+    {
+        match self {
+            FaultRule::First => false,
+            FaultRule::LeaveOut => why.is_of_record(),
+        }
+    }
+}
