@@ -14,12 +14,20 @@ mod json_lines;
 #[cfg(test)]
 mod json_records;
 #[cfg(test)]
+mod limits;
+#[cfg(test)]
 mod log_lines;
 #[cfg(test)]
 mod log_texts;
 #[cfg(test)]
+mod messages;
+#[cfg(test)]
 mod questions;
+#[cfg(test)]
+mod restarts;
 #[cfg(test)]
 mod sizes;
 #[cfg(test)]
 mod slow;
+#[cfg(test)]
+mod stamp_forms;
