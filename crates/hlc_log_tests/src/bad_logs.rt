@@ -1,6 +1,7 @@
 // Texts that are no logs, and the one row that answers each.
 
 use crate::audits::{PAIRS, expect_report};
+use hlc_log::MAX_LOG_NODES;
 use hlc_log_audit::Outcome;
 use hlc_log_text::FaultRule;
 use std::alloc::Global;
@@ -178,6 +179,8 @@ fn names_have_256_bytes_at_most(rt: HostRuntime) {
     }
     expect_bad(&rt, rt.alloc(), &log, "bad,2,name,node\n");
 }
+
+const _: () = prove!(MAX_LOG_NODES == 65_535);
 
 // Nodes have five digits as names; after 65,535 of them a known one may come, but no new one.
 #[test]
