@@ -79,10 +79,10 @@ def received(form, receives, reading, seen):
 
 
 class Record(list):
-    """The fields of a record as a log without a header has them, and beside them those of the stamp that its message carried, if it tells one, and
-    the node that it names as the sender, if it does so in place of the message."""
+    """The fields of a record as a log without a header has them, and beside them those of the stamp that its message carried, if it tells one, the
+    node that it names as the sender, if it does so in place of the message, and its seq, if it has one."""
 
-    carried, sender = (), b""
+    carried, sender, seq = (), b"", b""
 
 
 ODD = [b",", b'"', b"\n", b"\r\n", b"\r", b" ", b"\xff", b"\x00", b"\xef\xbb\xbf", "é".encode(), b"a", b"0", b"=", b"\\", b"local"]
@@ -234,11 +234,60 @@ def retried(rng, form, lists):
     return lists
 
 
-def copied(fields):
-    """The same record, by itself."""
+def crossed(rng, lists):
+    """The records of each node, of which those of some nodes stand the other way round, so that receives may wait for one another."""
+    return [records[::-1] if rng.random() < 0.7 else records for records in lists]
+
+
+def exchanged(rng, lists):
+    """The same records, but some of them exchanged with the next one of their node, as where threads write their lines."""
+    found = [[copied(fields) for fields in records] for records in lists]
+    for records in found:
+        place = 0
+        while place + 1 < len(records):
+            if rng.random() < 0.2:
+                records[place], records[place + 1] = records[place + 1], records[place]
+                place += 1
+            place += 1
+    return found
+
+
+def copied(fields, seq=None):
+    """The same record, by itself, with this seq, if one is given."""
     record = Record(fields)
-    record.carried, record.sender = carried_by(fields), sender_of(fields)
+    record.carried, record.sender, record.seq = carried_by(fields), sender_of(fields), seq_of(fields) if seq is None else seq
     return record
+
+
+def shuffled(rng, lists):
+    """The same records with seqs that say in which order those of each node stand, and these in another order. Some of a node have one seq and then
+    stand in their order, and its first ones may have none, as with 0."""
+    found = []
+    for records in lists:
+        seq, step, told = rng.choice((0, 0, 1, 1000, model.MOST_NUMBER - 3 * len(records))), rng.choice((1, 2, 3)), []
+        for fields in records:
+            told.append(copied(fields, b"%d" % seq if seq or rng.random() < 0.5 else b""))
+            seq += rng.randrange(step + 1)
+        # (any of those that stand first among the records of their seq that are left)
+        found.append([])
+        while told:
+            fields = rng.choice(told) if rng.random() < 0.6 else told[0]
+            first = next(other for other in told if int(other.seq or 0) == int(fields.seq or 0))
+            found[-1].append(first)
+            told = [other for other in told if other is not first]
+    return found
+
+
+BAD_SEQS = [b"-1", b"x", b"1.0", b"18446744073709551616", b" 1", b"0" * 21]
+
+
+def with_bad_seq(rng, lists):
+    """The same records with seqs, of which one may be none."""
+    lists = shuffled(rng, lists)
+    some = [fields for records in lists for fields in records]
+    for fields in rng.sample(some, min(len(some), rng.choice((1, 1, 2)))):
+        fields.seq = rng.choice(BAD_SEQS)
+    return lists
 
 
 def carried_by(fields):
@@ -249,6 +298,11 @@ def carried_by(fields):
 def sender_of(fields):
     """The node that a record names as the sender, if it does."""
     return getattr(fields, "sender", b"")
+
+
+def seq_of(fields):
+    """The seq of a record, if it has one."""
+    return getattr(fields, "seq", b"")
 
 
 def names_senders(form, records):
@@ -283,6 +337,7 @@ def column_list(rng, form, records, spoils):
     has_readings = any(fields[0] in model.KINDS and fields[2:3] not in ([], [b""]) for fields in records)
     is_carrying = any(carried_by(fields) for fields in records)
     names = [b"node", *form.columns, *(form.carried_columns if is_carrying else ())] + [b"reading"] * (rng.random() < (0.9 if spoils else 1 if has_readings else 0.5))
+    names += [b"seq"] * any(seq_of(fields) for fields in records)
     names += [b"from"] * (names_senders(form, records) or rng.random() < 0.1)
     names += [b"message"] * (rng.random() < (0.9 if spoils else 1 if has_messages else 0.5)) + [b"label"] * (rng.random() < 0.7)
     rng.shuffle(names)
@@ -323,6 +378,7 @@ def headed(rng, form, records, spoils=False):
         under[b"message"] = fields[least - 1] if least > 3 + width else junk(rng)
         under[b"label"] = fields[least] if len(fields) > least else b""
         under |= {name: field if fields[0] == b"receive" else junk(rng) for name, field in zip(form.carried_columns, brought) if is_carrying}
+        under[b"seq"] = seq_of(source)
         # (where the message is named, the sender isn't read)
         under[b"from"] = sender_of(source) if fields[0] == b"receive" and fields[least - 1] == b"" else junk(rng)
         placed = [fields[0], *(under[name] if counts else junk(rng) for name, counts in columns), *more]
@@ -408,6 +464,8 @@ def values_of(rng, form, record, told):
         values["message"] = record[least - 1].decode("latin-1")
     if sender_of(record):
         values["from"] = sender_of(record).decode("latin-1")
+    if seq_of(record):
+        values["seq"] = number_value(rng, seq_of(record))
     if len(record) > least:
         values["label"] = record[least].decode("latin-1")
     # (what isn't there, is null, or is empty is the same)

@@ -1,8 +1,8 @@
 #!/usr/bin/env python3
 """A model of `hlc audit`, written from docs/FORMATS.md and not from the code.
 
-    .ci/audits/model.py [--packed B] [--dotted] [--tolerance D] [--receives RULE] [--unsent local] [--resent WHICH] [--lenient] [--strict]
-        [--limit D] [--jsonl [--field NAME=PATH].. [--kind WORD=VALUE,..]..] [--reading-unit UNIT --l-unit UNIT] < LOG
+    .ci/audits/model.py [--packed B] [--dotted] [--tolerance D] [--receives RULE] [--unsent local] [--resent WHICH] [--lenient] [--all-faults] [--strict]
+        [--limit D] [--groups] [--jsonl [--field NAME=PATH].. [--kind WORD=VALUE,..]..] [--reading-unit UNIT --l-unit UNIT] < LOG
 
 It reads a log as bytes, and writes the report and ends with the status that the program has to have. It is plain and slow: each row is made
 from the events, their direct predecessors and the least stamps, as the document says it, and nothing is kept beside them.
@@ -30,7 +30,7 @@ RECEIVES = TICK, MERGE, MERGE_CLOCK = "tick", "merge", "merge-clock"
 RESENT = FIRST, LAST = "first", "last"
 
 # The columns of a log of JSON lines, in the places that they have in its records.
-COLUMNS = (b"kind", b"node", b"reading", b"l", b"c", b"stamp", b"message", b"from", b"carried", b"carried_l", b"carried_c", b"label")
+COLUMNS = (b"kind", b"node", b"reading", b"l", b"c", b"stamp", b"message", b"from", b"carried", b"carried_l", b"carried_c", b"seq", b"label")
 # How many of a unit are a second.
 UNITS = {"s": 1, "ms": 10**3, "us": 10**6, "ns": 10**9, "ntp64": 2**32}
 
@@ -41,6 +41,14 @@ class Bad(Exception):
     def __init__(self, line, *why):
         super().__init__(line, *why)
         self.line, self.why = line, why
+
+
+class AllBad(Bad):
+    """The input isn't a log: each reason that is told."""
+
+    def __init__(self, faults):
+        super().__init__(faults[0].line, *faults[0].why)
+        self.faults = faults
 
 
 # CSV in and out
@@ -98,6 +106,13 @@ def records(text):
         place = end
 
 
+def file_name(fields):
+    """The name of the file that a record marks, if it marks one."""
+    field = fields[0]
+    is_mark = len(fields) == 1 and field.startswith(b"==> ") and field[4:].endswith(b" <==") and 1 <= len(field) - 8 <= LONGEST_NAME
+    return field[4:-4] if is_mark else None
+
+
 # JSON lines
 
 
@@ -124,7 +139,8 @@ class Json:
         for place, line in enumerate(text.split(b"\n")):
             line = line.removeprefix(b"\xef\xbb\xbf")
             if line.strip(b" \t\r"):
-                yield place + 1, self.record(json_object(line))
+                mark = line.removesuffix(b"\r")
+                yield place + 1, [mark] if file_name([mark]) else self.record(json_object(line))
 
     def record(self, found):
         """The record that tells what an object does, if that tells of an event."""
@@ -185,8 +201,20 @@ def depth(found):
     return 0
 
 
+class Line(int):
+    """The number of a line, over all files, and how it is told: by its number in its file, behind the file's name, if it stands in one."""
+
+    def __new__(cls, number, mark=None):
+        """`mark` has the line of the last file mark before it, the file's name, and whether no mark before that has this name."""
+        line = super().__new__(cls, number)
+        line.told = b"%s:%d" % (mark[1], number - mark[0]) if mark else b"%d" % number
+        line.can_be_asked = mark is None or mark[2]
+        return line
+
+
 def row(*cells):
     """A row as it is written."""
+    cells = [cell.told if isinstance(cell, Line) else cell for cell in cells]
     fields = [cell if isinstance(cell, bytes) else str(cell).encode() for cell in cells]
     return b",".join(b'"' + field.replace(b'"', b'""') + b'"' if set(field) & set(b',"\r\n') else field for field in fields) + b"\n"
 
@@ -232,11 +260,11 @@ class Event:
     """What a record tells of, with the node by its place among the names, and its direct predecessors. What it claims is None if the log tells
     no stamp; its stamp is then the one that it is given."""
 
-    __slots__ = ("line", "kind", "node", "reading", "is_told", "claim", "stamp", "message", "sender", "carried", "label")
+    __slots__ = ("line", "kind", "node", "reading", "is_told", "claim", "stamp", "message", "sender", "carried", "seq", "label")
     __slots__ += ("before", "sent", "ticks", "floor", "least", "forcing")
 
-    def __init__(self, line, kind, node, reading, claim, message, sender, carried, label, tolerance):
-        self.line, self.kind, self.node, self.claim, self.stamp, self.label = line, kind, node, claim, claim, label
+    def __init__(self, line, kind, node, reading, claim, message, sender, carried, seq, label, tolerance):
+        self.line, self.kind, self.node, self.claim, self.stamp, self.seq, self.label = line, kind, node, claim, claim, seq, label
         self.message, self.sender, self.carried = message, sender, carried
         # (if it isn't told what the clock read, that is taken as L, as far as a clock may read it; and if it is told, as far as it isn't known)
         self.is_told, l = reading is not None, claim[0] if claim else 0
@@ -257,30 +285,58 @@ class Event:
 class Log:
     """The events of a text in the order of the lines, the names of its nodes, and the questions among the records."""
 
-    def __init__(self, text, form, unsent_local=False, questions=False, tolerance=0, receives=TICK, json=None, units=None, resent=None, lenient=False):
+    def __init__(
+        self, text, form, unsent_local=False, questions=False, tolerance=0, receives=TICK, json=None, units=None, resent=None, lenient=False, all_faults=False
+    ):
         self.tolerance, self.units, self.skipped, self.left_out, self.resent = tolerance, units, [], [], 0
         self.form, self.events, self.nodes, self.questions, self.unsent, self.header = form, [], {}, [], 0, COLUMNS if json else None
-        for place, (line, fields) in enumerate(json.records(text) if json else records(text)):
+        # (a second send of a message is one of the bad records where these are left out, unless it is said which send a receive is of)
+        self.sent = set() if lenient and not resent else None
+        mark, is_first, names, faults = None, True, set(), []
+        entries = json.records(text) if json else records(text)
+        while True:
             try:
-                self.take(place, line, fields, json, questions)
+                line, fields = next(entries)
+            except StopIteration:
+                break
             except Bad as bad:
-                if not lenient or bad.why[0] == "header":
-                    raise
-                self.left_out.append((bad.why[0], line))
-        self.link(unsent_local, resent)
+                raise AllBad([*faults, Bad(Line(bad.line, mark), *bad.why)]) from bad
+            name = file_name(fields)
+            if name is not None:
+                mark, is_first, self.header = (line, name, name not in names), True, COLUMNS if json else None
+                names.add(name)
+                continue
+            try:
+                self.take(is_first and not json, Line(line, mark), fields, json, questions)
+            except Bad as bad:
+                if bad.why[0] == "header" or not lenient and not all_faults:
+                    raise AllBad([*faults, bad]) from bad
+                if all_faults:
+                    faults.append(bad)
+                else:
+                    self.left_out.append((bad.why[0], bad.line))
+            finally:
+                is_first = False
+        if faults:
+            raise AllBad(faults)
+        # (as events stand: by their seqs, and then by their lines)
+        self.standing = sorted(self.events, key=lambda event: event.seq)
+        faults = self.link(unsent_local, resent)
+        if faults:
+            raise AllBad(sorted(faults, key=lambda bad: bad.line) if all_faults else faults[:1])
         for event in self.events:
             event.keep(receives)
-        self.order = self.causal_order()
+        self.order = self.causal_order(lenient)
         for event in self.order:
             if event.claim is None:
                 event.stamp = given_stamp(event)
         self.give_least_stamps()
 
-    def take(self, place, line, fields, json, questions):
+    def take(self, may_be_header, line, fields, json, questions):
         """Takes in a record."""
         if json and fields[0] in KINDS:
             self.look_for_all(line, dict(zip(COLUMNS, fields)))
-        if place == 0 and fields[0] == b"kind":
+        if may_be_header and fields[0] == b"kind":
             self.take_header(line, fields)
         elif fields == [b"skipped"]:
             self.skipped.append(line)
@@ -325,8 +381,8 @@ class Log:
             raise Bad(line, "header")
 
     def in_place(self, line, fields):
-        """The fields of a record under a header, as they would stand without one, those of what a receive's message carried, and the node that it
-        names as the sender; of a record of no event, its fields as they are."""
+        """The fields of a record under a header, as they would stand without one, those of what a receive's message carried, the node that it
+        names as the sender, and its seq; of a record of no event, its fields as they are."""
         if fields[0] not in KINDS:
             return fields, ()
         if len(fields) != len(self.header):
@@ -338,10 +394,11 @@ class Log:
         label = [under[b"label"]] if under.get(b"label") else []
         carried = [under.get(name, b"") for name in self.form.carried_columns] if fields[0] == b"receive" else ()
         sender = under.get(b"from", b"") if message == [b""] and fields[0] == b"receive" else b""
-        return [fields[0], *(under.get(name, b"") for name in (b"node", b"reading", *self.form.columns)), *message, *label], carried, sender
+        return [fields[0], *(under.get(name, b"") for name in (b"node", b"reading", *self.form.columns)), *message, *label], carried, sender, under.get(b"seq", b"")
 
-    def event(self, line, fields, carried, sender=b""):
-        """The event that a record tells of, with the fields of what its message carried, and the sender that it names in place of the message."""
+    def event(self, line, fields, carried, sender=b"", of_seq=b""):
+        """The event that a record tells of, with the fields of what its message carried, the sender that it names in place of the message, and the
+        field of its seq."""
         if fields[0] not in KINDS:
             raise Bad(line, "word")
         named = fields[0] in NAMED
@@ -360,6 +417,9 @@ class Log:
         brought = self.form.stamp(carried) if any(carried) else None
         if any(carried) and (brought is None or brought[1] >= MOST_FLOOR_C) or sender and brought is None:
             raise Bad(line, "number", worst(self.form.carried_columns, carried))
+        seq = number(of_seq) if of_seq else 0
+        if seq is None:
+            raise Bad(line, "number", b"seq")
         message = fields[least - 1] if named else None
         names = {b"node": fields[1]}
         if named and not self.is_nameless(fields[0], message):
@@ -367,25 +427,30 @@ class Log:
         for column, name in names.items():
             if not 1 <= len(name) <= LONGEST_NAME:
                 raise Bad(line, "name", column)
+        if self.sent is not None and fields[0] == b"send" and message in self.sent:
+            raise Bad(line, "sent-twice")
         if fields[1] not in self.nodes and len(self.nodes) == MOST_NODES:
             raise Bad(line, "node")
         node = self.nodes.setdefault(fields[1], len(self.nodes))
+        if self.sent is not None and fields[0] == b"send" and message:
+            self.sent.add(message)
         label = fields[least] if len(fields) > least else None
-        return Event(line, fields[0], node, reading, stamp if has_stamp else None, message, sender, brought, label, self.tolerance)
+        return Event(line, fields[0], node, reading, stamp if has_stamp else None, message, sender, brought, seq, label, self.tolerance)
 
     def is_nameless(self, word, message):
         """Whether a record is a send whose message has no name, as under a header with a column for the senders."""
         return word == b"send" and message == b"" and self.header is not None and b"from" in self.header[1:]
 
     def link(self, unsent_local, resent):
-        """Finds each event's direct predecessors."""
-        last, sends, first = {}, {}, {}
-        for event in self.events:
+        """Finds each event's direct predecessors, and answers why there is no order: first the messages that are sent again, and then those that nobody sends."""
+        last, sends, first, faults = {}, {}, {}, []
+        for event in self.standing:
             event.before, last[event.node] = last.get(event.node), event
+        for event in self.events:
             if event.kind == b"send":
                 if event.message in sends:
                     if not resent:
-                        raise Bad(event.line, "sent-twice")
+                        faults.append(Bad(event.line, "sent-twice", event.message))
                     self.resent += 1
                 if event.message:
                     sends.setdefault(event.message, []).append(event)
@@ -399,13 +464,14 @@ class Log:
                 if event.sent is None and event.carried is not None:
                     event.kind = b"outside"
                 elif event.sent is None and not unsent_local:
-                    raise Bad(event.line, "unsent")
+                    faults.append(Bad(event.line, "unsent", event.message))
                 elif event.sent is None:
                     event.kind = b"local"
                     self.unsent += 1
+        return faults
 
-    def causal_order(self):
-        """The events, each after its direct predecessors."""
+    def causal_order(self, lenient):
+        """The events, each after its direct predecessors. Those that wait, since no order has a place for them, are left out where bad records are."""
         waits = {event: len(predecessors(event)) for event in self.events}
         after = collections.defaultdict(list)
         for event in self.events:
@@ -417,8 +483,11 @@ class Log:
                 waits[other] -= 1
                 if not waits[other]:
                     order.append(other)
-        if len(order) < len(self.events):
-            raise Bad(next(event.line for event in self.events if waits[event]), "cycle")
+        if len(order) < len(self.events) and lenient:
+            self.left_out += [("cycle", event.line) for event in self.events if waits[event]]
+            self.events, self.standing = ([event for event in events if not waits[event]] for events in (self.events, self.standing))
+        elif len(order) < len(self.events):
+            raise AllBad([Bad(next(event.line for event in self.standing if waits[event]), "cycle")])
         return order
 
     def give_least_stamps(self):
@@ -429,7 +498,7 @@ class Log:
             event.forcing = next((other for other in predecessors(event) if above and following(event, other.least) == event.least), None)
 
     def of_node(self, node):
-        return [event for event in self.events if event.node == node]
+        return [event for event in self.standing if event.node == node]
 
 
 # What is said of an event
@@ -510,10 +579,28 @@ def causes(event, full):
 def broken_by_claim(event, full):
     """The rules that are broken by what an event claims. What the document leaves open: after a full C the rule gives the next L."""
     broken = [("behind",)] if is_behind(event) else []
-    broken += [("not-above", other.line) for other in predecessors(event) if not_above(event, other)]
+    swapped = ("swapped",) if stand_swapped(event, full) else ()
+    broken += [("not-above", event.before.line, *swapped)] if event.before and not_above(event, event.before) else []
+    broken += [("not-above", event.sent.line)] if event.sent and not_above(event, event.sent) else []
     l, c = rule(event, seen)
     given = (l, c) if c <= full else (l + 1, 0)
     return [("ahead", *given)] if not broken and event.stamp != given else broken
+
+
+def stand_swapped(event, full):
+    """Whether an event and its node's event before it stand in each other's place: the log tells both stamps, and each is the one that the rule gives
+    in the place of the other."""
+    first, second = event.before, event
+    if not first or not first.claim or not second.claim:
+        return False
+    return second.stamp == given_after(second, first.before, full) and first.stamp == given_after(first, second, full)
+
+
+def given_after(event, before, full):
+    """The stamp that the rule gives an event, if this, or none, is its node's event before it."""
+    seen_there = [seen(event, other) for other in (before, event.sent) if other]
+    l, c = max([event.floor, *(following(event, stamp) for stamp in seen_there)])
+    return (l, c) if c <= full else (l + 1, 0)
 
 
 def chain(event):
@@ -554,7 +641,7 @@ def report(log, unsent_local=False, resent=None, limit=None):
     for event in log.events:
         yield from (row("cause", event.line, names[event.node], *found) for found in causes(event, full))
     of_nodes = [[] for _ in names]
-    for event in log.events:
+    for event in log.standing:
         of_nodes[event.node].append(event)
     for name, events in zip(names, of_nodes):
         yield row("node", name, len(events), *drift(events))
@@ -563,6 +650,7 @@ def report(log, unsent_local=False, resent=None, limit=None):
     times = collections.Counter(event.sent for event in receives)
     yield row("messages", len(sends), len(receives), sum(time > 1 for time in times.values()), sum(not times[send] for send in sends))
     yield from (row("skew", names[sender], names[receiver], *shown) for (receiver, sender), shown in sorted(skews(log).items()))
+    yield from (row("units", factor) for factor in (10**3, 10**6, 10**9) if are_scaled(log, factor))
     if unsent_local:
         yield row("unsent", log.unsent)
     if resent:
@@ -578,15 +666,61 @@ def report(log, unsent_local=False, resent=None, limit=None):
         yield row("unstamped", unstamped)
     if log.skipped:
         yield row("skipped", len(log.skipped), log.skipped[0])
-    for word in ("word", "fields", "number", "name", "node", "field"):
+    for word in ("word", "fields", "number", "name", "node", "field", "sent-twice", "cycle"):
         lines = [line for why, line in log.left_out if why == word]
         if lines:
             yield row("left-out", word, len(lines), lines[0])
     for name, events in zip(names, of_nodes):
-        over = [event for event in events if limit is not None and claimed_ahead(event) > limit]
+        # (these are named by lines, whatever their seqs)
+        over = [event for event in sorted(events, key=lambda event: event.line) if limit is not None and claimed_ahead(event) > limit]
         if over:
             furthest = max(over, key=claimed_ahead)
             yield row("over", name, len(over), over[0].line, claimed_ahead(furthest), way(furthest)[0].line)
+
+
+def group_rows(log):
+    """The rows of the groups of causes: each with how many it has, and the line of the first, in the order of the first ones."""
+    names, full = [*log.nodes], log.form.full
+    found = {}
+    for event in log.events:
+        for word, of in compared(event, full):
+            found.setdefault((event.node, word, None if of is None else of.node), []).append(event.line)
+    for (node, word, of), lines in found.items():
+        yield row("group", names[node], word, b"" if of is None else names[of], len(lines), lines[0])
+
+
+def compared(event, full):
+    """For each of an event's causes its word, and the event with whose stamp the rule compares, or None if it does so with the reading, or with what
+    else is the floor."""
+    above = [other for other in (event.before, event.sent) if other and event.claim and not_above(event, other)]
+    for word, *_ in causes(event, full):
+        if word == "behind":
+            yield word, None
+        elif word == "not-above":
+            yield word, above.pop(0)
+        elif word == "ahead":
+            yield word, followed(event)
+        else:
+            yield word, event.sent
+
+
+def followed(event):
+    """The event whose stamp that of the rule comes directly after: the one with the greater stamp, its node's own if they tie. None if the floor is
+    above both."""
+    others = [other for other in (event.before, event.sent) if other]
+    greater = max(others, key=lambda other: seen(event, other), default=None)
+    return greater if greater and event.floor <= seen(event, greater) else None
+
+
+def are_scaled(log, factor):
+    """Whether all stamps are ahead, with L at a factor of each reading, to within a tenth."""
+    claims = [event for event in log.events if event.claim]
+    both = [event for event in claims if event.is_told]
+    return (
+        bool(both)
+        and all(verdict(event, log.form.full) == "ahead" for event in claims)
+        and all(9 * factor * event.reading <= 10 * event.claim[0] <= 11 * factor * event.reading for event in both)
+    )
 
 
 def claimed_ahead(event):
@@ -608,7 +742,7 @@ def skews(log):
     """For two nodes, the receiver first, the greatest reading of a send less that of its receive, and the lines of the first message that
     shows it. What the document leaves open: they may be one node, and rows come by the receiver first."""
     greatest = {}
-    for event in log.events:
+    for event in log.standing:
         if event.kind == b"receive" and event.is_told and event.sent.is_told:
             pair, ahead = (event.node, event.sent.node), event.sent.reading - event.reading
             if pair not in greatest or ahead > greatest[pair][0]:
@@ -637,10 +771,18 @@ def question(line, fields):
         raise Bad(line, "fields")
     if word == b"drift":
         return word, given
-    lines = [number(field) for field in given]
+    lines = [location(field) for field in given]
     if None in lines:
         raise Bad(line, "number")
     return word, lines
+
+
+def location(field):
+    """How a line is told that a question names; None if the field names none."""
+    name, colon, digits = field.rpartition(b":")
+    if number(digits) is None or (colon and not 1 <= len(name) <= LONGEST_NAME):
+        return None
+    return name + colon + b"%d" % number(digits)
 
 
 def explain(log, at, line):
@@ -715,7 +857,7 @@ QUESTIONS = {
 
 def answers(log, asked):
     """A row for each question, in the order in which they are asked."""
-    at = {event.line: event for event in log.events}
+    at = {event.line.told: event for event in log.events if event.line.can_be_asked}
     for word, given in asked:
         if word == b"drift":
             missing = given[0] not in log.nodes and "no-node"
@@ -746,17 +888,23 @@ def audit(
     reading_unit=None,
     l_unit=None,
     lenient=False,
+    all_faults=False,
+    groups=False,
 ):
     """What the program writes of a text, what it says to standard error, and its status."""
     units, json_lines = (reading_unit, l_unit) if l_unit else None, Json(field, kind) if jsonl else None
     try:
-        log = Log(text, Form(packed, dotted), unsent == "local", questions, tolerance or 0, receives or TICK, json_lines, units, resent, lenient)
+        log = Log(text, Form(packed, dotted), unsent == "local", questions, tolerance or 0, receives or TICK, json_lines, units, resent, lenient, all_faults)
         asked = log.questions + [question(0, fields) for given in ask for _, fields in records(given)]
+    except AllBad as bad:
+        return b"".join(row("bad", fault.line, *fault.why) for fault in bad.faults), b"hlc: bad log\n", 4
     except Bad as bad:
         return row("bad", bad.line, *bad.why), b"hlc: bad log\n", 4
     rows = b"".join(answers(log, asked))
     if not asked or with_report:
         rows = b"".join(report(log, unsent == "local", resent, limit)) + rows
+    if groups:
+        rows += b"".join(group_rows(log))
     if strict and broken(log):
         return rows, b"hlc: broken stamps\n", 3
     if limit is not None and over_limit(log, limit):
@@ -779,7 +927,9 @@ def main():
     line.add_argument("--questions", action="store_true", help="answer the questions among the records")
     line.add_argument("--ask", action="append", default=[], type=os.fsencode)
     line.add_argument("--report", action="store_true", dest="with_report")
+    line.add_argument("--groups", action="store_true")
     line.add_argument("--lenient", action="store_true")
+    line.add_argument("--all-faults", action="store_true")
     line.add_argument("--jsonl", action="store_true")
     line.add_argument("--field", action="append", default=[], type=os.fsencode)
     line.add_argument("--kind", action="append", default=[], type=os.fsencode)

@@ -7,6 +7,7 @@
 
 #include <stdio.h>
 #include <stdlib.h>
+#include <string.h>
 #include <time.h>
 
 /* A function that is called as one of a library is: gcc looks at nothing of it. */
@@ -76,6 +77,47 @@ PLAIN bool plain_is_below(hlc_stamp first, hlc_stamp second)
     return first.l < second.l || (first.l == second.l && first.c < second.c);
 }
 
+/* The next number of a packed clock: the one after the greatest of some, or the first of the reading. */
+static uint32_t plain_packed_step(uint64_t above, uint32_t bits, uint64_t reading, uint64_t *number)
+{
+    uint64_t first = reading << bits;
+    if (above == UINT64_MAX)
+        return HLC_NO_ROOM;
+    *number = greater(above + 1, first);
+    return HLC_OK;
+}
+
+/* Whether the l of the number after one is too far ahead. */
+static int is_packed_far(uint64_t number, uint32_t bits, uint64_t reading, uint64_t limit)
+{
+    uint64_t mask = ((uint64_t)1 << bits) - 1, l = (number >> bits) + ((number & mask) == mask);
+    return l > reading && l - reading > limit;
+}
+
+PLAIN uint32_t plain_packed_tick(uint64_t *clock, uint32_t bits, uint64_t reading, uint64_t limit)
+{
+    if (bits < 1 || bits > 32)
+        return HLC_BITS;
+    if (reading == 0 || reading >> (64 - bits) != 0)
+        return HLC_READING;
+    if (is_packed_far(*clock, bits, reading, limit))
+        return HLC_TOO_FAR;
+    return plain_packed_step(*clock, bits, reading, clock);
+}
+
+PLAIN uint32_t plain_packed_merge(uint64_t *clock, uint64_t message, uint32_t bits, uint64_t reading, uint64_t limit)
+{
+    if (bits < 1 || bits > 32)
+        return HLC_BITS;
+    if (reading == 0 || reading >> (64 - bits) != 0)
+        return HLC_READING;
+    if (is_packed_far(*clock, bits, reading, limit))
+        return HLC_TOO_FAR;
+    if (is_packed_far(message, bits, reading, limit))
+        return HLC_MESSAGE_TOO_FAR;
+    return plain_packed_step(greater(*clock, message), bits, reading, clock);
+}
+
 PLAIN uint32_t plain_judge(const hlc_claim *claims, size_t count, hlc_verdict *verdicts, size_t places, uint32_t *bad)
 {
     if (count != places)
@@ -122,6 +164,136 @@ PLAIN uint32_t plain_judge(const hlc_claim *claims, size_t count, hlc_verdict *v
     return HLC_OK;
 }
 
+PLAIN uint32_t plain_judge_next(hlc_judged *last, const hlc_judged *sent, uint32_t event, uint64_t reading, hlc_stamp claimed, hlc_verdict *verdict)
+{
+    hlc_stamp least = last->least;
+    uint32_t status = plain_merge(&least, sent->least, reading);
+    if (status != HLC_OK)
+        return status;
+    hlc_verdict said = {0, 0, 0, HLC_LEAST};
+    if (claimed.l < reading) {
+        said.kind = HLC_BEHIND;
+    } else if (!plain_is_below(last->claimed, claimed)) {
+        said.kind = HLC_NOT_ABOVE;
+        said.event = last->event;
+    } else if (!plain_is_below(sent->claimed, claimed)) {
+        said.kind = HLC_NOT_ABOVE;
+        said.event = sent->event;
+    } else if (claimed.l != least.l || claimed.c != least.c) {
+        said = (hlc_verdict){least.l, least.c, 0, plain_is_below(claimed, least) ? HLC_LOW : HLC_AHEAD};
+    }
+    *verdict = said;
+    *last = (hlc_judged){claimed, least, event};
+    return HLC_OK;
+}
+
+/* Digits up to a place, and where they begin. */
+static char *digits_before(char *end, uint64_t number)
+{
+    do
+        *--end = (char)('0' + number % 10);
+    while (number /= 10);
+    return end;
+}
+
+PLAIN size_t plain_stamp_text(char *buffer, size_t size, hlc_stamp stamp)
+{
+    char text[HLC_STAMP_SIZE], *end = text + sizeof text, *begin = digits_before(end, stamp.c);
+    *--begin = '.';
+    begin = digits_before(begin, stamp.l);
+    size_t length = (size_t)(end - begin);
+    if (length <= size)
+        memcpy(buffer, begin, length);
+    return length;
+}
+
+static const char *number_in(const char *text, const char *end, uint64_t *number)
+{
+    const char *begin = text;
+    uint64_t value = 0;
+    for (; text < end && *text >= '0' && *text <= '9'; text++) {
+        uint64_t digit = (uint64_t)(*text - '0');
+        if (text - begin == 20 || value > (UINT64_MAX - digit) / 10)
+            return NULL;
+        value = value * 10 + digit;
+    }
+    *number = value;
+    return text > begin ? text : NULL;
+}
+
+PLAIN uint32_t plain_stamp_read(const char *text, size_t length, hlc_stamp *stamp)
+{
+    uint64_t l, c;
+    const char *end = text + length, *dot = number_in(text, end, &l);
+    if (!dot || dot == end || *dot != '.' || number_in(dot + 1, end, &c) != end || c > UINT32_MAX)
+        return HLC_TEXT;
+    *stamp = (hlc_stamp){l, (uint32_t)c};
+    return HLC_OK;
+}
+
+static int is_mark(char byte)
+{
+    return byte == ',' || byte == '"' || byte == '\r' || byte == '\n';
+}
+
+/* How long a field is, between quotes if it needs them. */
+static size_t field_length(hlc_text field)
+{
+    size_t quotes = 0;
+    int is_quoted = 0;
+    for (size_t i = 0; i < field.length; i++) {
+        is_quoted |= is_mark(field.bytes[i]);
+        quotes += field.bytes[i] == '"';
+    }
+    return field.length + (is_quoted ? quotes + 2 : 0);
+}
+
+static char *put_field(char *to, hlc_text field, size_t length)
+{
+    if (length == field.length) {
+        if (length)
+            memcpy(to, field.bytes, length);
+        return to + length;
+    }
+    *to++ = '"';
+    for (size_t i = 0; i < field.length; i++) {
+        if (field.bytes[i] == '"')
+            *to++ = '"';
+        *to++ = field.bytes[i];
+    }
+    *to++ = '"';
+    return to;
+}
+
+static hlc_text number_text(char *end, uint64_t number)
+{
+    char *begin = number ? digits_before(end, number) : end;
+    return (hlc_text){begin, (size_t)(end - begin)};
+}
+
+PLAIN size_t plain_packed_log_row(char *buffer, size_t size, const hlc_log_event *event, uint64_t stamp, uint64_t carried)
+{
+    static const hlc_text words[] = {{"local", 5}, {"send", 4}, {"receive", 7}, {"restart", 7}};
+    char digits[3][20];
+    if (event->kind > HLC_RESTART || !event->node.length || event->node.length > 256 || event->message.length > 256 || event->from.length > 256
+        || event->label.length > UINT32_MAX || event->reading > INT64_MAX)
+        return 0;
+    if (event->kind == HLC_RECEIVE ? !event->message.length && (!event->from.length || !carried) : !stamp)
+        return 0;
+    const hlc_text fields[] = {words[event->kind], event->node, number_text(digits[0] + 20, event->reading), number_text(digits[1] + 20, stamp),
+        event->message, event->from, number_text(digits[2] + 20, carried), event->label};
+    size_t lengths[8], length = 8;
+    for (int i = 0; i < 8; i++)
+        length += lengths[i] = field_length(fields[i]);
+    if (length <= size) {
+        for (int i = 0; i < 8; i++) {
+            buffer = put_field(buffer, fields[i], lengths[i]);
+            *buffer++ = i < 7 ? ',' : '\n';
+        }
+    }
+    return length;
+}
+
 static double seconds(void)
 {
     struct timespec now;
@@ -129,7 +301,7 @@ static double seconds(void)
     return (double)now.tv_sec + (double)now.tv_nsec * 1e-9;
 }
 
-enum { INPUTS = 4096, ROUNDS = 4000, TRIES = 9, CLAIMS = 1 << 20 };
+enum { INPUTS = 4096, ROUNDS = 2000, TRIES = 9, CLAIMS = 1 << 20 };
 
 static uint64_t readings[INPUTS];
 static hlc_stamp messages[INPUTS];
@@ -137,19 +309,22 @@ static hlc_claim claims[CLAIMS];
 static hlc_verdict verdicts[CLAIMS];
 static volatile uint32_t sink;
 
-/* The least time of some tries, in nanoseconds a call, of a call on a clock, a message and a reading. */
+/* The least time of some tries, in nanoseconds a call, of a call on a clock, packed or not, a message and a reading. */
 #define CALLS(name, call)                                                                          \
     do {                                                                                           \
         double best = 1e9;                                                                         \
         for (int try = 0; try < TRIES; try++) {                                                    \
             hlc_stamp clock = {0, 0};                                                              \
+            uint64_t packed = 0;                                                                   \
             uint32_t sum = 0;                                                                      \
+            (void)clock, (void)packed;                                                             \
             double begun = seconds();                                                              \
             for (uint32_t i = 0; i < INPUTS * ROUNDS; i++) {                                       \
                 uint64_t reading = readings[i % INPUTS] + (uint64_t)(i / INPUTS) * INPUTS;         \
                 hlc_stamp message = messages[i % INPUTS];                                          \
                 message.l += (uint64_t)(i / INPUTS) * INPUTS;                                      \
                 sum += (uint32_t)(call);                                                           \
+                (void)reading;                                                                     \
             }                                                                                      \
             double took = seconds() - begun;                                                       \
             sink = sum;                                                                            \
@@ -201,6 +376,26 @@ int main(void)
     CALLS("hlc_merge_within", hlc_merge_within(&clock, message, reading, 5000));
     CALLS("plain_is_below", (clock = message, plain_is_below(clock, messages[reading % INPUTS])));
     CALLS("hlc_is_below", (clock = message, hlc_is_below(clock, messages[reading % INPUTS])));
+    CALLS("plain_packed_tick", plain_packed_tick(&packed, 16, reading, 5000));
+    CALLS("hlc_packed_tick", hlc_packed_tick(&packed, 16, reading, 5000));
+    CALLS("plain_packed_merge", plain_packed_merge(&packed, message.l << 16 | message.c, 16, reading, 5000));
+    CALLS("hlc_packed_merge", hlc_packed_merge(&packed, message.l << 16 | message.c, 16, reading, 5000));
+    static char text[64];
+    static hlc_log_event event = {.node = {"frankfurt-1", 11}, .message = {"6ba7b810-9dad-11d1", 18}, .reading = 1700000000123, .kind = HLC_SEND};
+    const hlc_stamp stamp = {1700000000123, 12};
+    size_t length = plain_stamp_text(text, sizeof text, stamp);
+    static char row[200];
+    CALLS("plain_stamp_text", plain_stamp_text(row, sizeof row, (clock = stamp, clock.c = message.c, clock)));
+    CALLS("hlc_stamp_text", hlc_stamp_text(row, sizeof row, (clock = stamp, clock.c = message.c, clock)));
+    CALLS("plain_stamp_read", plain_stamp_read(text, length, &clock) + clock.c);
+    CALLS("hlc_stamp_read", hlc_stamp_read(text, length, &clock) + clock.c);
+    CALLS("plain_packed_log_row", plain_packed_log_row(row, sizeof row, &event, 111411200008060928 + message.c, 0));
+    CALLS("hlc_packed_log_row", hlc_packed_log_row(row, sizeof row, &event, 111411200008060928 + message.c, 0));
+    static hlc_judged last, sent;
+    hlc_verdict verdict;
+    CALLS("plain_judge_next", plain_judge_next(&last, &sent, i, reading, (sent.least = message, sent.claimed = message, message.c += 1, message), &verdict));
+    last = (hlc_judged){{0, 0}, {0, 0}, 0};
+    CALLS("hlc_judge_next", hlc_judge_next(&last, &sent, i, reading, (sent.least = message, sent.claimed = message, message.c += 1, message), &verdict));
     JUDGES("plain_judge", plain_judge);
     JUDGES("hlc_judge", hlc_judge);
     return 0;

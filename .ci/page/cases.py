@@ -96,7 +96,19 @@ def drawn(words, options, asked):
     return words, options
 
 
+def around(rng):
+    """So many rows about an event, or the chain of one alone, as the words of the command line and as the page's options."""
+    event, rows, explained = rng.randrange(1, 20), rng.randint(1, 6), rng.choice((None, rng.randrange(1, 20)))
+    if rng.random() < 0.4:
+        return ["--explain", str(event), "--only-chain"], {"explain": str(event), "only": True}
+    return ["--around", str(event), "--rows", str(rows), *option("explain", explained)], {"around": str(event), "rows": rows, "explain": "" if explained is None else str(explained)}
+
+
 def draw_case(rng):
+    if rng.random() < 0.2:
+        words, options = settings(rng)
+        event = str(rng.randrange(20))
+        return ["draw", *words, "--explain", event, "--only-chain"], {**options, "explain": event, "only": True}, script(rng)
     asked = view(rng, 0)
     if asked["from"] is not None and asked["to"] is not None:
         asked["from"], asked["to"] = sorted((asked["from"], asked["to"]))
@@ -125,6 +137,9 @@ def audit_case(rng):
 
 
 def draw_log_case(rng):
+    if rng.random() < 0.4:
+        (words, options), (more, part) = reading(rng), around(rng)
+        return ["draw-log", *words, *more], {**options, **part}, log(rng, options["form"])
     words, options = drawn(*reading(rng), view(rng, 1))
     return ["draw-log", *words], options, log(rng, options["form"])
 

@@ -80,8 +80,8 @@ local,1,6,10,2
 local,0,9,11,0
 """
 
-# The most records that a text may have.
-MOST = 1_048_576
+# The most records that a script or a trace may have, and a log.
+MOST, MOST_OF_LOG = 1_048_576, 16_777_216
 
 
 def at_limits():
@@ -134,7 +134,7 @@ def many_rows():
 
 
 def as_many_as_may_be():
-    """As many records as a text may have, and one more: a script is answered up to it, and of a trace there is no verdict."""
+    """As many records as a text may have, and one more: a script is answered up to it, and of a trace there is no verdict, nor anything of a log."""
     too_long = "hlc: too many records\n", 1
     words, record, rows = "run --nodes 2 --capacity 4", "x\n", "refused,word\n" * MOST
     yield "as many records as may be", words, record * MOST, rows
@@ -143,6 +143,8 @@ def as_many_as_may_be():
     rows = "verdict,0,least\n" + "".join(f"verdict,{place},not-above,{place - 1}\n" for place in range(1, MOST))
     yield "as many claims as may be", JUDGE, claim * MOST, rows
     yield "one claim more", JUDGE, claim * (MOST + 1), "", *too_long
+    for words in "audit", "vectors":
+        yield f"one record more, {words}", f"{words} --jsonl", record * (MOST_OF_LOG + 1), "", f"hlc: too many records: a log has at most {MOST_OF_LOG}\n", 1
 
 
 def runs():

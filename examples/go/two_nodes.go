@@ -43,7 +43,7 @@ func (c *Clock) Merge(message Stamp, reading, limit uint64) (Stamp, error) {
 	return c.answer(C.hlc_merge_within(&c.last, sent, C.uint64_t(reading), C.uint64_t(limit)))
 }
 
-func (c *Clock) answer(status C.uint32_t) (Stamp, error) {
+func (c *Clock) answer(status C.hlc_status) (Stamp, error) {
 	stamp := Stamp{uint64(c.last.l), uint32(c.last.c)}
 	switch status {
 	case C.HLC_OK:

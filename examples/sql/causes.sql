@@ -1,7 +1,7 @@
 -- The causes of a log, as `hlc audit` tells them: each clock rule that an event's stamp breaks, in a row of its own.
 --
--- It reads a table `events` with a row for each event: its node; seq, its place among the events of that node; line, the name that it has in
--- answers; kind: local, send, receive, or, of a receive at which the clock doesn't count, merge (the clock isn't read there) or merge-clock; the
+-- It reads a table `events` with a row for each event: its node; seq, by which it stands among the events of that node, and where that is equal
+-- by line; line, the name that it has in answers; kind: local, send, receive, or, of a receive at which the clock doesn't count, merge (the clock isn't read there) or merge-clock; the
 -- message that it sends or receives; reading, what its clock read, or NULL; and the stamp (l, c) that it claims. A message is sent once.
 create view causes as
 with at_node as (
@@ -10,7 +10,7 @@ with at_node as (
         case when kind in ('merge', 'merge-clock') then 0 else 1 end as ticks,
         lag(line) over own as own_line, lag(l) over own as own_l, lag(c) over own as own_c
     from events
-    window own as (partition by node order by seq)
+    window own as (partition by node order by seq, line)
 ), beside as (
     select at_node.*, sent.line as sent_line, sent.l as sent_l, sent.c as sent_c,
         own_l is null or sent.l > own_l or (sent.l = own_l and sent.c > own_c) as sent_is_later

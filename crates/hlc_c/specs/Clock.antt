@@ -46,3 +46,14 @@ pub record IsMerge (old message : Pair) (reading : ℕ) (new : Pair) : Type 0 wh
   pub above_message : IsBelow message new
   pub not_behind : reading ≤ new.l
   pub least : (p : Pair) → IsBelow old p → IsBelow message p → reading ≤ p.l → IsAtMost new p
+
+-- of all pairs of natural numbers, the least that is below neither the old one nor the message's
+pub record IsObserved (old message new : Pair) : Type 0 where
+  pub not_below_old : IsAtMost old new
+  pub not_below_message : IsAtMost message new
+  pub least : (p : Pair) → IsAtMost old p → IsAtMost message p → IsAtMost new p
+
+-- a tick of a clock that has seen a message is the merge of the message
+abbrev pub TicksAfterMessagesAreMerges : Type 0
+TicksAfterMessagesAreMerges = (old message seen new : Pair) (reading : ℕ) → IsObserved old message seen
+    → IsTick seen reading new → IsMerge old message reading new

@@ -1,4 +1,9 @@
+pub mod Causes
 pub mod Claim
 pub mod Clock
+pub mod Judged
+pub mod LogEvent
+pub mod Restart
 pub mod Stamp
+pub mod Status
 pub mod Verdict

@@ -1,10 +1,10 @@
 ghost use Rattle.std.specs.Prelude.{◌≡◌, ◌↔◌, IsTrue};
 ghost use Rattle.hlc_stamp.specs.Order.{IsBelow};
-ghost use Rattle.hlc_c.specs.Clock.{CanCountAt, CanMerge, CanTick, IsMerge, IsMergeTooFar, IsReading, IsTick, IsTickTooFar, IsTooFar};
+ghost use Rattle.hlc_c.specs.Clock.{CanCountAt, CanMerge, CanTick, IsMerge, IsMergeTooFar, IsObserved, IsReading, IsTick, IsTickTooFar, IsTooFar};
 ghost use Rattle.hlc_c.specs.Stamp.{pair_of};
 
 use crate::stamp::CStamp;
-use crate::status::{HLC_NO_ROOM, HLC_OK, HLC_READING, HLC_TOO_FAR};
+use crate::status::{HLC_MESSAGE_TOO_FAR, HLC_NO_ROOM, HLC_OK, HLC_READING, HLC_TOO_FAR};
 use hlc_stamp::{MAX_READING, Stamp, merge, tick};
 
 /// The clock's next event, a send or a local one: its stamp becomes the clock's.
@@ -93,6 +93,28 @@ pub extern "C" fn hlc_merge_within(
         return HLC_TOO_FAR;
     }
     hlc_merge(clock, message, reading)
+}
+
+/// The clock sees a message of this stamp, and counts nothing: it becomes the greater of both.
+#[unsafe(no_mangle)]
+pub extern "C" fn hlc_observe(clock: &mut CStamp, message: CStamp, reading: u64, limit: u64) -> u32
+    ensures ok { result ≡ HLC_OK ↔ (IsReading reading × ¬ IsTooFar message.l reading limit) }
+    ensures reading { result ≡ HLC_READING ↔ ¬ IsReading reading }
+    ensures message_too_far { result ≡ HLC_MESSAGE_TOO_FAR ↔ (IsReading reading × IsTooFar message.l reading limit) }
+
+    ensures least { result ≡ HLC_OK → IsObserved (pair_of clock.old) (pair_of message) (pair_of clock.new) }
+    ensures unchanged { ¬ (result ≡ HLC_OK) → clock.new ≡ clock.old }
+{
+    if !is_reading(reading) {
+        return HLC_READING;
+    }
+    if is_too_far(message.l, reading, limit) {
+        return HLC_MESSAGE_TOO_FAR;
+    }
+    if hlc_is_below(*clock, message) {
+        *clock = message;
+    }
+    HLC_OK
 }
 
 /// Whether the first stamp comes before the second.

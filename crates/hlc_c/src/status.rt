@@ -18,3 +18,15 @@ pub const HLC_BAD_TRACE: u32 = 5;
 
 /// An allocation was refused.
 pub const HLC_MEMORY: u32 = 6;
+
+/// The number of bits for `c` is 0 or above 32.
+pub const HLC_BITS: u32 = 7;
+
+/// A stamp has more bits than a packed one has room for.
+pub const HLC_WIDE: u32 = 8;
+
+/// The message is ahead of the reading by more than the limit.
+pub const HLC_MESSAGE_TOO_FAR: u32 = 9;
+
+/// The text isn't one of a stamp.
+pub const HLC_TEXT: u32 = 10;

@@ -50,10 +50,10 @@ same_answers None (Some x) there back = back x refl
 same_answers None None there back = refl
 
 -- an event, by its place
-abbrev event_of : ℕ → EventId
+abbrev pub event_of : ℕ → EventId
 event_of n = record { 0 = n }
 
-named_is : (o : Option ℕ) (d : EventId) → (option_map event_of o ≡ Some d) ↔ (o ≡ Some d.0)
+pub named_is : (o : Option ℕ) (d : EventId) → (option_map event_of o ≡ Some d) ↔ (o ≡ Some d.0)
 named_is None d = (λ is. absurd cc, λ is. absurd cc)
 named_is (Some n) d = (
   λ is. let same : ◌≡◌ {A = EventId} (record { 0 = n }) d = cc in ap (λ (x : EventId). Some x.0) same,
@@ -161,7 +161,7 @@ module _ (t : ClockEvents) (claimed : List Pair) (full f : ℕ) (exists : f < le
     λ other. ap (λ (x : Pair). Some x) (same_ahead p q ahead other),
   )
 
-  none_ahead : ((p : Pair) → ¬ IsAheadOf t claimed full f p) → NamesAhead t claimed full f None
+  pub none_ahead : ((p : Pair) → ¬ IsAheadOf t claimed full f p) → NamesAhead t claimed full f None
   none_ahead none q = (λ is. absurd cc, λ ahead. absurd (none q ahead))
 
   pub kept_not_ahead : KeepsRule t claimed full f → NamesAhead t claimed full f None

@@ -4,6 +4,8 @@ pub mod Given
 pub mod LinksFound
 pub mod NextEvents
 pub mod OnTraces
+pub mod OneEvent
 pub mod Predecessors
+pub mod Swapped
 pub mod Tests
 pub mod Written

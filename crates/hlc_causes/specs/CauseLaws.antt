@@ -1,5 +1,5 @@
 -- The laws of causes, over any events as a clock rule reads them, and any claimed stamps.
-use Rattle.std.specs.Prelude.{◌≡◌, ◌≢◌, ◌↔◌, ◌⊎◌, ℕ, ◌^◌, ◌<◌, ◌≤◌, List, [], length}
+use Rattle.std.specs.Prelude.{◌≡◌, ◌≢◌, ◌↔◌, ◌⊎◌, ℕ, ◌^◌, ◌<◌, ◌≤◌, IsTrue, List, [], length}
 use Rattle.hlc_stamp.specs.declared.id.EventId.{EventId}
 use Rattle.hlc_stamp.specs.Order.{Pair}
 use Rattle.hlc_causality.specs.Assignment.{pair_at}
@@ -7,6 +7,7 @@ use Rattle.hlc_causality.specs.Causality.{HappenedBefore}
 use Rattle.hlc_causality.specs.ClockEvents.{ClockEvents, clock_skeleton, ticking}
 use Rattle.hlc_causality.specs.Feasible.{IsFeasibleAt, IsLeastFeasible, IsLeastFeasibleAt}
 use Rattle.hlc_causality.specs.Past.{IsInPast}
+use Rattle.hlc_causality.specs.Predecessors.{previous_of, send_of}
 use Rattle.hlc_verdict.specs.declared.claim.Claim.{Claim}
 use Rattle.hlc_verdict.specs.declared.verdict.Verdict.TheVariants.{Behind as BehindVerdict, Least, Low, NotAbove as NotAboveVerdict}
 use Rattle.hlc_verdict.specs.Trace.{claimed_stamps, trace_skeleton}
@@ -17,7 +18,9 @@ use Rattle.hlc_causes.specs.declared.answers.Cause.TheVariants.{Ahead, Behind, N
 use Rattle.hlc_causes.specs.declared.answers.Causes.{Causes}
 use Rattle.hlc_causes.specs.Causes.{NamesCauses, BreaksRule, IsAheadOf, RollsOver, IsCause, IsFirstOf, KeepsRule, top_at}
 use Rattle.hlc_causes.specs.Given.{IsStamp, given_at}
+use Rattle.hlc_causes.specs.Local.{local_causes, local_event, placed_causes}
 use Rattle.hlc_causes.specs.Rule.{next_l}
+use Rattle.hlc_causes.specs.Swapped.{keeps_after}
 use Rattle.hlc_causes.specs.Verdicts.{verdict_on}
 
 -- f is a cause or a rollover
@@ -100,3 +103,15 @@ NoEventsAreLeast = (t : ClockEvents) (stamps : List Pair) → t ≡ [] → stamp
 abbrev pub GivenIsNoCause : Type 0
 GivenIsNoCause = (t : ClockEvents) (claimed : List Pair) (full f : ℕ) (any : Pair) → f < length t → full < 2 ^ 32 →
     IsFeasibleAt t claimed f any → IsStamp any → pair_at claimed f ≡ given_at t claimed f → ¬ IsCause t claimed full f
+
+-- an event keeps the rule exactly if it does so after its own previous event
+abbrev pub KeptAfterPrevious : Type 0
+KeptAfterPrevious = (t : ClockEvents) (claimed : List Pair) (full f : ℕ) → f < length t →
+    IsTrue (keeps_after t claimed full f (previous_of (clock_skeleton t) f)) ↔ KeepsRule t claimed full f
+
+-- causes are local: the rules that an event breaks are told by its own stamp, those claimed at its direct predecessors, its floor and whether it
+-- ticks
+abbrev pub CausesAreLocal : Type 0
+CausesAreLocal = (t : ClockEvents) (claimed : List Pair) (full f : ℕ) → f < length t →
+    let s = clock_skeleton t in
+    NamesCauses t claimed full f (placed_causes (previous_of s f) (send_of s f) (local_causes full (local_event t claimed f)))

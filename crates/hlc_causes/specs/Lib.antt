@@ -1,7 +1,9 @@
 pub mod CauseLaws
 pub mod Causes
 pub mod Given
+pub mod Local
 pub mod Rule
 pub mod Seen
+pub mod Swapped
 pub mod Verdicts
 pub mod Words

@@ -61,7 +61,7 @@ pub(crate) fn rule_event(execution: &Execution, event: EventId) -> RuleEvent
 }
 
 // Whether a stamp may come directly after another one: above it, or, where the event doesn't tick, not below it.
-fn follows(ticks: bool, before: Stamp, stamp: Stamp) -> bool
+pub(crate) fn follows(ticks: bool, before: Stamp, stamp: Stamp) -> bool
     ensures { result ≡ follows ticks before stamp }
 {
     if ticks {

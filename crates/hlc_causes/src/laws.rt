@@ -4,7 +4,7 @@
 //! A cause looks at the claimed stamps of an event and of its direct predecessors alone; the laws say what causes and rollovers
 //! stamps tell of the whole log.
 
-ghost use Rattle.hlc_causes.specs.CauseLaws.{AheadIsAlone, AheadNamesTheRulesStamp, BehindIsCause, CausesAreNamed, CausesAreUnique, CausesBreakTheRule, CausesExplainVerdicts, GivenIsNoCause, LowHeardOfDisorder, LowIsCauseIfAhead, NoCauseIsLeast, NoCauseKeepsRule, NoEventsAreLeast, NotAboveIsCause, VerdictsAreThoseOfTraces};
+ghost use Rattle.hlc_causes.specs.CauseLaws.{AheadIsAlone, AheadNamesTheRulesStamp, BehindIsCause, CausesAreLocal, CausesAreNamed, CausesAreUnique, CausesBreakTheRule, CausesExplainVerdicts, GivenIsNoCause, KeptAfterPrevious, LowHeardOfDisorder, LowIsCauseIfAhead, NoCauseIsLeast, NoCauseKeepsRule, NoEventsAreLeast, NotAboveIsCause, VerdictsAreThoseOfTraces};
 
 /// Each event has one answer: the rules that it breaks. It breaks none exactly if its claimed stamp is the least that can be written
 /// there. And the causes are just the events whose claimed stamp is neither a rollover nor the least that isn't below the floor and is
@@ -14,6 +14,17 @@ pub fn one_answer_each()
     ensures unique { CausesAreUnique }
     ensures kept { NoCauseKeepsRule }
     ensures breaks_rule { CausesBreakTheRule }
+{}
+
+/// Causes are local: what `LocalEvent::causes` says of an event's own stamp, of those claimed at its direct predecessors, of its floor and of
+/// whether it ticks is what the event breaks, whatever else the log claims.
+pub fn causes_are_local()
+    ensures { CausesAreLocal }
+{}
+
+/// An event keeps the rule exactly if `keeps_after` says so of it and its own previous event.
+pub fn kept_after_previous()
+    ensures { KeptAfterPrevious }
 {}
 
 /// What is ahead is neither behind nor not above a direct predecessor.

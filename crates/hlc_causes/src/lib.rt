@@ -15,6 +15,10 @@
 //! - `verdict` compares one claimed stamp with its floor, its direct predecessors and the least stamp, as `hlc_verdict` does where
 //!   each event ticks.
 //! - `causes_at` says which rules were broken at an event itself: its `Causes`, each a `Cause`, and the `first` of them.
+//! - A `LocalEvent` is what the clock rule looks at, at one event, and `causes` says which rules are broken there: its `LocalCauses`. So whoever has
+//!   three records needs no execution.
+//! - `keeps_after` says whether an event would keep the rule, if another one were the previous event of its node: two events stand
+//!   swapped if each would in the place of the other.
 //! - `rolls_over` says whether the stamp rolls over, and `finding` gives the verdict, or says so: a `Finding`.
 //! - `stamp_given` gives an event of which no stamp is told the one of the clock rule, after the stamps claimed just before it.
 //! - `laws` says that causes and rollovers explain every verdict, and what else the answers tell.
@@ -48,7 +52,9 @@ mod claims;
 mod direct;
 mod giving;
 mod judging;
+mod keeping;
 pub mod laws;
+mod local;
 mod pushing;
 mod seen;
 
@@ -57,5 +63,7 @@ pub use causes::{causes_at, rolls_over};
 pub use claims::Claims;
 pub use giving::stamp_given;
 pub use judging::{finding, verdict};
+pub use keeping::keeps_after;
+pub use local::{LocalCauses, LocalEvent};
 pub use pushing::push_least;
 pub use seen::Seen;

@@ -23,6 +23,7 @@ not_two command.NoEvent is = absurd (omega arith)
 not_two command.Settings is = absurd (omega arith)
 not_two (command.Mismatch node) is = absurd (omega arith)
 not_two (command.GateShut node) is = absurd (omega arith)
+not_two (command.LogTooLong most) is = absurd (omega arith)
 not_two (command.Records fault) is = absurd (omega arith)
 
 -- no status is above 4
@@ -35,6 +36,7 @@ command_at_most command.NoEvent = omega arith
 command_at_most command.Settings = omega arith
 command_at_most (command.Mismatch node) = omega arith
 command_at_most (command.GateShut node) = omega arith
+command_at_most (command.LogTooLong most) = omega arith
 command_at_most (command.Records fault) = omega arith
 
 fault_at_most : (f : Fault) → status_of f ≤ 4

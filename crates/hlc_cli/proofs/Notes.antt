@@ -38,6 +38,7 @@ command_has_status command.NoEvent zero = omega arith
 command_has_status command.Settings zero = omega arith
 command_has_status (command.Mismatch node) zero = omega arith
 command_has_status (command.GateShut node) zero = omega arith
+command_has_status (command.LogTooLong most) zero = omega arith
 command_has_status (command.Records fault) zero = omega arith
 
 -- no fault has status 0

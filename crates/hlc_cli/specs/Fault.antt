@@ -22,6 +22,7 @@ command_status command.NoEvent = 1
 command_status command.Settings = 1
 command_status (command.Mismatch node) = 1
 command_status (command.GateShut node) = 1
+command_status (command.LogTooLong most) = 1
 command_status (command.Records fault) = 1
 
 -- the exit status of a fault: 2 if the command line is at fault

@@ -18,7 +18,7 @@
 //! A first caller, proved in `hlc_program_examples`: the program within another program.
 //!
 //! ```rust
-//! pub fn perform_arguments<R: AllocGlobal + Threads + Wait + Sync>(
+//! pub fn perform_arguments<R: AllocGlobal + Threads + Wait + RandomSource + Sync>(
 //!     rt: &R,
 //!     arguments: &[&str],
 //!     input: &[u8],

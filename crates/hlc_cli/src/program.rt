@@ -16,14 +16,16 @@ use clap::error::ErrorKind;
 use hlc_command_fault::{CommandFault, NoEvents};
 use hlc_command_line::{Hint, HistoryPart, LineFault, Order, hint_for, order, sign_hint};
 use hlc_csv::RecordsFault;
-use hlc_log_commands::{audit_log, draw_log, vectors_of_log};
+use hlc_log_commands::{NameKey, audit_log, draw_log, vectors_of_log};
 use hlc_script_commands::{draw_script, draw_script_chain, print_storm, run_script, trace_script};
 use hlc_threads_command::play;
 use hlc_trace::judge_run;
 use std::fmt::Display;
+use std::hash::RandomState;
 use std::io;
 use std::io::{Read, Write};
 use std::marker::Brand;
+use std::random::RandomSource;
 use std::sync::Wait;
 use std::sync::ledger::Blank;
 use std::thread::Threads;
@@ -66,12 +68,28 @@ fn unnoted<F>(ended: Result<(), F>) -> Result<Option<NoEvents>, F>
     }
 }
 
-// Hands an order to what does it, and gives the note on it.
-fn dispatch<R: AllocGlobal + Threads + Wait + Sync, I: Read + Drop, O: Write>(
+// A key by which names are hashed: drawn at random, if the order is to read names. Where none can be had, the input counts as unread.
+fn name_key<R: RandomSource>(rt: &R, order: &Order) -> Result<NameKey, CommandFault>
+    ensures { IfErr result (λ fault. fault ≡ CommandFault.Records RecordsFault.Read) }
+{
+    match order {
+        Order::Audit { .. } | Order::DrawLog { .. } | Order::Vectors { .. } => {
+            match RandomState::new(rt) {
+                Ok(state) => Ok(NameKey::drawn(state)),
+                Err(_) => Err(CommandFault::Records(RecordsFault::Read)),
+            }
+        }
+        _ => Ok(NameKey::fixed()),
+    }
+}
+
+// Hands an order to what does it, and gives the note on it. Names of a log are hashed by the key.
+fn carry_out<R: AllocGlobal + Threads + Wait + Sync, I: Read + Drop, O: Write>(
     rt: &R,
     order: Order,
     reader: I,
     writer: &mut O,
+    key: NameKey,
 ) -> Result<Option<NoEvents>, CommandFault>
     ensures done { OnOk result (IsDone (I.remaining reader) (O.contents writer.old) (O.contents writer.new) order) }
     ensures told { IfErr result (λ fault. IsAnswered fault → IsDoneBut fault
@@ -104,12 +122,12 @@ fn dispatch<R: AllocGlobal + Threads + Wait + Sync, I: Read + Drop, O: Write>(
             options,
             asked,
             json,
-        } => audit_log(alloc, reader, writer, options, &asked, json),
+        } => audit_log(alloc, reader, writer, options, &asked, json, key),
         Order::DrawLog { options, json } => {
-            unnoted(draw_log(alloc, reader, writer, options, json))
+            unnoted(draw_log(alloc, reader, writer, options, json, key))
         }
         Order::Vectors { records, json } => unnoted(vectors_of_log(
-            alloc, reader, writer, records, json,
+            alloc, reader, writer, records, json, key,
         )),
         Order::Storm { nodes, steps, seed } => {
             unnoted(print_storm(alloc, nodes, steps, seed, writer))
@@ -126,10 +144,30 @@ fn dispatch<R: AllocGlobal + Threads + Wait + Sync, I: Read + Drop, O: Write>(
     }
 }
 
+// The same, with a key of its own.
+fn dispatch<R: AllocGlobal + Threads + Wait + RandomSource + Sync, I: Read + Drop, O: Write>(
+    rt: &R,
+    order: Order,
+    reader: I,
+    writer: &mut O,
+) -> Result<Option<NoEvents>, CommandFault>
+    ensures done { OnOk result (IsDone (I.remaining reader) (O.contents writer.old) (O.contents writer.new) order) }
+    ensures told { IfErr result (λ fault. IsAnswered fault → IsDoneBut fault
+        (I.remaining reader) (O.contents writer.old) (O.contents writer.new) order) }
+    ensures noted { IfOk result (λ note. IsNoteFor (I.remaining reader) note order) }
+    ensures unread { IfErr result (λ fault. IsUnread fault → ReadsFirst order → writer.new ≡ writer.old) }
+    ensures begun { (writer.new ≡ writer.old) ⊎ MayWrite (I.remaining reader) order }
+{
+    match name_key(rt, &order) {
+        Ok(key) => carry_out(rt, order, reader, writer, key),
+        Err(fault) => Err(fault),
+    }
+}
+
 /// Performs the arguments of a command line: does the order that they give, or shows the text that they ask for. `perform` tells the
 /// user of its faults, and of its note: a script that is drawn or traced has records, and none of them is an event, or a log that is audited has
 /// none.
-pub fn try_perform<R: AllocGlobal + Threads + Wait + Sync, I: Read + Drop, O: Write>(
+pub fn try_perform<R: AllocGlobal + Threads + Wait + RandomSource + Sync, I: Read + Drop, O: Write>(
     rt: &R,
     arguments: &[&str],
     reader: I,
@@ -209,6 +247,7 @@ fn command_status(fault: CommandFault) -> u8
         | CommandFault::Settings
         | CommandFault::Mismatch(_)
         | CommandFault::GateShut(_)
+        | CommandFault::LogTooLong { .. }
         | CommandFault::Records(_) => 1,
     }
 }
@@ -293,13 +332,12 @@ fn end<E: Write>(
 /// line on `errors` reports, 3 for a log whose stamps are broken or over the limit, and 4 for an input that is no log, or, in a strict audit, one
 /// without events, each with its line. At status 0 a line on `errors` says so if a script that was drawn or traced has records, and none of them is
 /// an event, or if a log that was audited has none. Where the line can't be written, the status is the same.
-pub fn perform<R: AllocGlobal + Threads + Wait + Sync, I: Read + Drop, O: Write, E: Write>(
-    rt: &R,
-    arguments: &[&str],
-    reader: I,
-    writer: &mut O,
-    errors: &mut E,
-) -> Ended
+pub fn perform<
+    R: AllocGlobal + Threads + Wait + RandomSource + Sync,
+    I: Read + Drop,
+    O: Write,
+    E: Write,
+>(rt: &R, arguments: &[&str], reader: I, writer: &mut O, errors: &mut E) -> Ended
     // It ended well, or in a fault for which holds what is said of it; its status is the one of that fault, and so is the line.
     ensures ended { Ends (texts arguments.now) (I.remaining reader) (O.contents writer.old) (O.contents writer.new)
         (E.contents errors.old) (E.contents errors.new) result }

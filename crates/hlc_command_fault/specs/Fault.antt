@@ -28,12 +28,14 @@ fault_text stop.OverLimit = codes "over the limit"
 fault_text stop.Settings = codes "bad settings"
 fault_text (stop.Mismatch node) = codes "log mismatch at node " ++ decimal node.0
 fault_text (stop.GateShut node) = codes "gate shut at node " ++ decimal node.0
+fault_text (stop.LogTooLong most) = codes "too many records: a log has at most " ++ decimal most
 fault_text (stop.Records fault) = records_fault_text fault
 
 -- the input failed: it could not be read, or has too many records
 abbrev pub IsOfInput : CommandFault → Type 0
 IsOfInput (stop.Records records.Read) = ⊤
 IsOfInput (stop.Records records.TooLong) = ⊤
+IsOfInput (stop.LogTooLong most) = ⊤
 IsOfInput _ = ⊥
 
 -- the whole answer was written, and tells of the fault: an event is missing, the input is no log, or a log without events, or stamps in it are broken

@@ -26,8 +26,13 @@ pub enum CommandFault {
     Mismatch(NodeId),
     /// The gate of a replica was shut.
     GateShut(NodeId),
-    /// The input could not be read, or has more records than the program takes, or the output could not be written, or an allocation
-    /// was refused.
+    /// The log has more records than are taken.
+    LogTooLong {
+        /// How many are taken at most.
+        most: u32,
+    },
+    /// The input could not be read, or has more records than the program takes and is no log, or the output could not be written, or an
+    /// allocation was refused.
     Records(RecordsFault),
 }
 
@@ -41,6 +46,9 @@ impl fmt::Display for CommandFault {
         let text = match *self {
             CommandFault::Mismatch(node) => return write!(f, "log mismatch at node {}", node.0),
             CommandFault::GateShut(node) => return write!(f, "gate shut at node {}", node.0),
+            CommandFault::LogTooLong { most } => {
+                return write!(f, "too many records: a log has at most {most}");
+            }
             CommandFault::Records(cause) => return fmt::Display::fmt(&cause, f),
             CommandFault::NoEvent => "no such event",
             CommandFault::BadLog => "bad log",

@@ -1,8 +1,10 @@
 -- The command line of `hlc`, if clap finds no fault in its arguments.
-use Rattle.std.proofs.Common.{◌≡◌, ◌∙◌, ap, None, ◌&&◌, sym, subst, Bool, true, false, not, List, [], ◌∷◌, ◌++◌, Option, Some, refl, is_some, map, lit≤, ⊎_elim}
+use Rattle.std.proofs.Common.{◌≡◌, ◌∙◌, ap, cond, None, ◌&&◌, sym, subst, Bool, true, false, not, List, [], ◌∷◌, ◌++◌, Option, Some, refl, is_some, map, lit≤, ⊎_elim}
 use Rattle.std.specs.Prelude.{◌≢◌, ◌↔◌, ℕ, Box, Err, IfErr, IfSome, IsSome, Ok, OnOk, Result, codes, find, option_map}
 use Rattle.std.specs.Box.{box_value}
 use Rattle.std.specs.List.{AllByRecursion}
+use Rattle.std.specs.Str.{bytes_eq}
+use Rattle.std.proofs.lemmas.Slice.Eq.{bytes_eq-Decides}
 use Rattle.clap.specs.Kinds.{check_kinds}
 use Rattle.clap.specs.Faults.{defaults_fault, entered_fault, fault_of, is_simple_and_free, settle_fault, walk_fault}
 use Rattle.clap.specs.Simple.{App, Shape, argument_words, built, built_leaf, entered, help_shape, is_simple, label_of, names_of, subcommand_of, subcommand_rows, subcommand_rows_of}
@@ -14,11 +16,11 @@ use Rattle.clap.specs.Walk.{Row, Text, answers_to, nothing_held, rows_after, row
 use Rattle.clap.proofs.OnLiterals.{clap_on_literals}
 use Rattle.hlc_causality.specs.declared.receives.Receives.{Receives}
 use Rattle.hlc_causality.specs.declared.receives.Receives.TheVariants as at_receives
-use Rattle.hlc_log_text.specs.Packed.{CanCount}
-use Rattle.hlc_log_text.specs.declared.packed_bits.PackedBits.{PackedBits}
+use Rattle.hlc_packed.specs.Packed.{CanCount}
+use Rattle.hlc_packed.specs.declared.packed_bits.PackedBits.{PackedBits}
 use Rattle.hlc_command_line.specs.LineOption.{AreUnsigned}
 use Rattle.hlc_command_line.specs.NumberOption.{IsNumberOf, IsOptionalNumber, IsSigned}
-use Rattle.hlc_command_line.specs.Line.{HasOptions, HasUnlessSigned, IsEntered, IsRefusal, IsRefusedFound, around_line, capacity, explain, explained_line, first_line, from, last_line, limit, line_app, nodes, number_names, packed, positive, receives_word, rows_around, seed, steps, subcommand_audit, subcommand_draw, subcommand_draw_log, subcommand_run, subcommand_storm, subcommand_threads, subcommand_trace, subcommand_vectors, subcommands, to, tolerance}
+use Rattle.hlc_command_line.specs.Line.{HasOptions, HasUnlessSigned, IsEntered, IsRefusal, IsRefusedFound, all_numbers, capacity, draw_log_numbers, draw_log_options, explain, from, limit, line_app, nodes, number_names, packed, positive, receives_word, rows_around, seed, steps, subcommand_audit, subcommand_draw, subcommand_draw_log, subcommand_run, subcommand_storm, subcommand_threads, subcommand_trace, subcommand_vectors, subcommands, to, tolerance}
 use Rattle.hlc_command_line.specs.declared.line_fault.LineFault.{LineFault}
 use Rattle.hlc_command_line.specs.declared.line_fault.LineFault.TheVariants as fault
 use Rattle.hlc_command_line.proofs.App.Each.{Each}
@@ -91,11 +93,11 @@ line_is_orderly =
     ) in
     let trace : IsOrderly subcommand_trace =
     ((refl, nodes_are_numbers), ((refl, capacity_is_number), ((refl, limit_is_number), ((refl, tt), tt)))) in
-    let audit : IsOrderly subcommand_audit = ((refl, packed_is_number), ((refl, tt), ((refl, tolerance_is_number), ((refl, tt), ((refl, tt), ((refl, tt), ((refl, tt), ((refl, tt), ((refl, tt), ((refl, tt), ((refl, tt), ((refl, tt), ((refl, tt), ((refl, limit_is_number), ((refl, tt), ((refl, tt), tt)))))))))))))))) in
-    let draw_log : IsOrderly subcommand_draw_log = ((refl, packed_is_number), ((refl, tt), ((refl, tolerance_is_number), ((refl, tt), ((refl, tt), ((refl, tt), ((refl, tt), ((refl, tt), ((refl, tt), ((refl, tt), ((refl, tt), ((refl, tt), ((refl, positive_is_number explained_line.name), ((refl, positive_is_number first_line.name), ((refl, positive_is_number last_line.name), ((refl, positive_is_number around_line.name), ((refl, positive_is_number rows_around.name), ((refl, tt), tt)))))))))))))))))) in
+    let audit : IsOrderly subcommand_audit = ((refl, packed_is_number), ((refl, tt), ((refl, tolerance_is_number), ((refl, tt), ((refl, tt), ((refl, tt), ((refl, tt), ((refl, tt), ((refl, tt), ((refl, tt), ((refl, tt), ((refl, tt), ((refl, tt), ((refl, tt), ((refl, limit_is_number), ((refl, tt), ((refl, tt), ((refl, tt), tt)))))))))))))))))) in
+    let draw_log : IsOrderly subcommand_draw_log = ((refl, packed_is_number), ((refl, tt), ((refl, tolerance_is_number), ((refl, tt), ((refl, tt), ((refl, tt), ((refl, tt), ((refl, tt), ((refl, tt), ((refl, tt), ((refl, tt), ((refl, tt), ((refl, tt), ((refl, tt), ((refl, tt), ((refl, tt), ((refl, tt), ((refl, positive_is_number rows_around.name), ((refl, tt), tt))))))))))))))))))) in
     let vectors : IsOrderly subcommand_vectors = (
       (refl, packed_is_number),
-      ((refl, tt), ((refl, tolerance_is_number), ((refl, tt), ((refl, tt), ((refl, tt), ((refl, tt), ((refl, tt), ((refl, tt), ((refl, tt), ((refl, tt), ((refl, tt), tt))))))))))),
+      ((refl, tt), ((refl, tolerance_is_number), ((refl, tt), ((refl, tt), ((refl, tt), ((refl, tt), ((refl, tt), ((refl, tt), ((refl, tt), ((refl, tt), ((refl, tt), ((refl, tt), tt)))))))))))),
     ) in
     let storm : IsOrderly subcommand_storm = ((refl, nodes_are_numbers), ((refl, steps_are_numbers), ((refl, seed_is_number), tt))) in
     let threads : IsOrderly subcommand_threads =
@@ -144,9 +146,13 @@ entered_has m name rows n r is = go (out-ArgMatches m).subcommand n r is
         let here : subcommand_rows (Some b) ≡ Some (name, rows) = rw (same, all) refl in
         has (is.0, is.1) (name, rows) (let to = sym is.2 ∙ here in cc) is.3
 
--- numbers without a sign are so in each subcommand
-each_unsigned : (rows : List Row) → AllByRecursion (λ name. ¬ IsSigned rows name) number_names → Each (λ s. AreUnsigned rows s.options) subcommands
-each_unsigned rows (n, (c, (l, (k, (s, (e, (f, (t, (a, (r, (p, (d, none)))))))))))) = (
+-- numbers without a sign are so in `draw-log`, and in each subcommand
+draw_log_unsigned : (rows : List Row) → AllByRecursion (λ name. ¬ IsSigned rows name) draw_log_numbers → AreUnsigned rows draw_log_options
+draw_log_unsigned rows (r, (p, (d, none))) =
+    (p, (tt, (d, (tt, (tt, (tt, (tt, (tt, (tt, (tt, (tt, (tt, (tt, (tt, (tt, (tt, (tt, (r, (tt, tt)))))))))))))))))))
+
+each_unsigned : (rows : List Row) → AllByRecursion (λ name. ¬ IsSigned rows name) all_numbers → Each (λ s. AreUnsigned rows s.options) subcommands
+each_unsigned rows (n, (c, (l, (k, (s, (e, (f, (t, (r, (p, (d, none))))))))))) = (
   (n, (c, (l, tt))),
   (
     (n, (c, (l, (e, (f, (t, (tt, tt))))))),
@@ -155,11 +161,11 @@ each_unsigned rows (n, (c, (l, (k, (s, (e, (f, (t, (a, (r, (p, (d, none)))))))))
       (
         tt,
         (
-          (p, (tt, (d, (tt, (tt, (tt, (tt, (tt, (tt, (tt, (tt, (tt, (tt, (l, (tt, (tt, tt)))))))))))))))),
+          (p, (tt, (d, (tt, (tt, (tt, (tt, (tt, (tt, (tt, (tt, (tt, (tt, (tt, (l, (tt, (tt, (tt, tt)))))))))))))))))),
           (
-            (p, (tt, (d, (tt, (tt, (tt, (tt, (tt, (tt, (tt, (tt, (tt, (e, (f, (t, (a, (r, (tt, tt)))))))))))))))))),
+            draw_log_unsigned rows (r, (p, (d, none))),
             (
-              (p, (tt, (d, (tt, (tt, (tt, (tt, (tt, (tt, (tt, (tt, (tt, tt)))))))))))),
+              (p, (tt, (d, (tt, (tt, (tt, (tt, (tt, (tt, (tt, (tt, (tt, (tt, tt))))))))))))),
               ((n, (k, (s, tt))), ((n, (k, (s, (l, tt)))), tt)),
             ),
           ),
@@ -170,9 +176,17 @@ each_unsigned rows (n, (c, (l, (k, (s, (e, (f, (t, (a, (r, (p, (d, none)))))))))
 )
 
 -- if none of its numbers has a sign, it has its options
-pub unsigned_entered : (name : Text) (rows : List Row) → AllByRecursion (λ option. ¬ IsSigned rows option) number_names → HasUnlessSigned name rows
-    → HasOptions name rows
-unsigned_entered name rows unsigned has = unsigned_has rows subcommands name (each_unsigned rows unsigned) has
+pub unsigned_entered : (name : Text) (rows : List Row) → AllByRecursion (λ option. ¬ IsSigned rows option) (number_names name)
+    → HasUnlessSigned name rows → HasOptions name rows
+unsigned_entered name rows unsigned has = go (bytes_eq name (codes "draw-log")) refl unsigned
+  where
+    go : (b : Bool) → bytes_eq name (codes "draw-log") ≡ b
+        → AllByRecursion (λ option. ¬ IsSigned rows option) (cond b draw_log_numbers all_numbers) → HasOptions name rows
+    go true is none =
+        let named : name ≡ codes "draw-log" = (bytes_eq-Decides name (codes "draw-log")).0 is in
+        let here = subst (λ (n : Text). HasUnlessSigned n rows) named has in
+        subst (λ (n : Text). HasOptions n rows) (sym named) (here (draw_log_unsigned rows none))
+    go false is none = unsigned_has rows subcommands name (each_unsigned rows none) has
 
 -- what was entered are this name and these rows
 pub entered_is : (m : ArgMatches) (name : Text) (rows : List Row) → Some name ≡ subcommand_name_of m

@@ -15,3 +15,4 @@ units_mistaken rows mistake.UnitAlone is = is
 units_mistaken rows mistake.ReadingUnit is = is
 units_mistaken rows mistake.LUnit is = is
 units_mistaken rows mistake.Resent is = absurd is
+units_mistaken rows mistake.Faults is = absurd is

@@ -13,17 +13,19 @@ part_mistake_text part.RowsAlone = codes "--rows needs --around"
 part_mistake_text part.AroundBetween = codes "--around takes no --from or --to"
 part_mistake_text part.ChainOfNone = codes "--only-chain needs --explain"
 part_mistake_text part.ChainAndRows = codes "--only-chain takes no --from, --to or --around"
+part_mistake_text (part.NoLine option) = codes "--" ++ option.now ++ codes " takes LINE or NAME:LINE, with a LINE of at least 1"
 
 -- why the records of no log are read so
 abbrev pub records_mistake_text : RecordsMistake → List ℕ
 records_mistake_text mistake.WithoutJson = codes "--field and --kind need --jsonl"
 records_mistake_text mistake.Field =
-    codes "--field takes NAME=PATH, as l=.hlc.l, of kind, node, reading, l, c, stamp, message, from, carried, carried_l, carried_c or label"
+    codes "--field takes NAME=PATH, as l=.hlc.l, of kind, node, reading, l, c, stamp, message, from, carried, carried_l, carried_c, seq or label"
 records_mistake_text mistake.Kind = codes "--kind takes WORD=VALUE,VALUE.., as send=posted,sent, of local, send, receive or restart"
 records_mistake_text mistake.UnitAlone = codes "--reading-unit and --l-unit need one another"
 records_mistake_text mistake.ReadingUnit = codes "--reading-unit takes `s`, `ms`, `us` or `ns`"
 records_mistake_text mistake.LUnit = codes "--l-unit takes `s`, `ms`, `us`, `ns` or `ntp64`"
 records_mistake_text mistake.Resent = codes "--resent takes `first` or `last`"
+records_mistake_text mistake.Faults = codes "--lenient takes no --all-faults: bad records are left out, or each is told"
 
 -- what a fault says; of arguments that clap refuses, the words are clap's
 abbrev pub line_fault_text : LineFault → Option (List ℕ)

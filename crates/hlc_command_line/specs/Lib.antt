@@ -6,6 +6,7 @@ pub mod LineOption
 pub mod Subcommand
 pub mod JsonOptions
 pub mod UnitOptions
+pub mod LogLine
 pub mod Line
 pub mod ResentOption
 pub mod Rules

@@ -1,5 +1,5 @@
 -- The command line of `hlc`.
-use Rattle.std.specs.Prelude.{◌≡◌, ◌≢◌, ◌⊎◌, ◌<◌, ◌-◌, ◌^◌, ℕ, false, true, ⊤, List, [], ◌∷◌, ◌++◌, Option, None, Some, codes, find, fold, option_map, unwrap_or}
+use Rattle.std.specs.Prelude.{◌≡◌, ◌≢◌, ◌⊎◌, ◌<◌, ◌-◌, ◌^◌, if◌then◌else◌, ℕ, false, true, ⊤, List, [], ◌∷◌, ◌++◌, Option, None, Some, codes, find, fold, option_map, unwrap_or}
 use Rattle.std.specs.Option.{IsSomeAnd}
 use Rattle.std.specs.Str.{bytes_eq}
 use Rattle.clap.specs.Kinds.{IsAmong, Kinds}
@@ -12,7 +12,7 @@ use Rattle.hlc_stamp.specs.declared.settings.Settings.{Settings}
 use Rattle.hlc_causality.specs.declared.receives.Receives.{Receives}
 use Rattle.hlc_causality.specs.declared.receives.Receives.TheVariants as at_receives
 use Rattle.hlc_log_text.specs.declared.fault_rule.FaultRule.{FaultRule}
-use Rattle.hlc_log_text.specs.declared.fault_rule.FaultRule.TheVariants.{First, LeaveOut}
+use Rattle.hlc_log_text.specs.declared.fault_rule.FaultRule.TheVariants.{First, LeaveOut, TellEach}
 use Rattle.hlc_log_text.specs.declared.log_rules.LogRules.{LogRules}
 use Rattle.hlc_log_text.specs.declared.stamp_form.StampForm.{StampForm}
 use Rattle.hlc_log_text.specs.declared.stamp_form.StampForm.TheVariants.{Dotted, Packed, Pair}
@@ -20,6 +20,7 @@ use Rattle.hlc_json_lines.specs.Rules.{field_of_text, kind_of_text}
 use Rattle.hlc_command_line.specs.Asked.{AreAsked, AsksNothing, ask, texts_of_option}
 use Rattle.hlc_command_line.specs.JsonOptions.{IsJsonOf, IsSyntaxOf, LacksMeaning, field, is_json_given, jsonl, kind}
 use Rattle.hlc_command_line.specs.LineOption.{HaveOptions, HaveUnlessSigned, IsFlagOf, IsOtherWord, IsWordOf, LineOption, flag, many, number, word}
+use Rattle.hlc_command_line.specs.LogLine.{IsLineGiven, IsLineLeftOut, IsLineOf, IsLineOption, IsOptionalLine, TellsNoLine, around_line, explained_line, first_line, last_line}
 use Rattle.hlc_command_line.specs.NumberOption.{IsGiven, IsLeftOut, IsNumberOf, IsOptionalNumber, IsSignedAmong, NumberOption, optional, signed_option, unsigned_option}
 use Rattle.hlc_command_line.specs.ResentOption.{IsNoResent, IsResentOf, resent}
 use Rattle.hlc_command_line.specs.Rules.{program_app}
@@ -73,23 +74,11 @@ from = event_number (codes "from")
 abbrev pub to : NumberOption
 to = event_number (codes "to")
 
--- a number from 1 on, as that of a line, which need not be given
+-- a number from 1 on, which need not be given
 abbrev pub positive : Text → NumberOption
 positive name = optional (unsigned_option name 1 (2 ^ 32 - 1))
 
--- the lines of the events to explain, of the first and the last one, and of one about which rows are drawn, and how many rows these are
-abbrev pub explained_line : NumberOption
-explained_line = positive (codes "explain")
-
-abbrev pub first_line : NumberOption
-first_line = positive (codes "from")
-
-abbrev pub last_line : NumberOption
-last_line = positive (codes "to")
-
-abbrev pub around_line : NumberOption
-around_line = positive (codes "around")
-
+-- how many rows about an event are drawn
 abbrev pub rows_around : NumberOption
 rows_around = positive (codes "rows")
 
@@ -125,11 +114,17 @@ unsent = codes "unsent"
 abbrev pub lenient : Text
 lenient = codes "lenient"
 
+abbrev pub all_faults : Text
+all_faults = codes "all-faults"
+
 abbrev pub strict : Text
 strict = codes "strict"
 
 abbrev pub report : Text
 report = codes "report"
+
+abbrev pub groups : Text
+groups = codes "groups"
 
 -- the options of a cluster's settings
 abbrev pub settings_options : List LineOption
@@ -157,12 +152,12 @@ subcommand_judge = record { name = codes "judge"; options = [] }
 -- how the records of a log are read
 abbrev pub record_options : List LineOption
 record_options =
-    number packed ∷ flag dotted ∷ number tolerance ∷ word receives ∷ word unsent ∷ word resent ∷ flag lenient ∷ flag jsonl ∷ many field ∷ many kind
-    ∷ word reading_unit ∷ word l_unit ∷ []
+    number packed ∷ flag dotted ∷ number tolerance ∷ word receives ∷ word unsent ∷ word resent ∷ flag lenient ∷ flag all_faults ∷ flag jsonl
+    ∷ many field ∷ many kind ∷ word reading_unit ∷ word l_unit ∷ []
 
 -- how a log is read and audited
 abbrev pub log_options : List LineOption
-log_options = record_options ++ flag strict ∷ number limit ∷ many ask ∷ flag report ∷ []
+log_options = record_options ++ flag strict ∷ number limit ∷ many ask ∷ flag report ∷ flag groups ∷ []
 
 abbrev pub subcommand_audit : Subcommand
 subcommand_audit = record { name = codes "audit"; options = log_options }
@@ -170,7 +165,7 @@ subcommand_audit = record { name = codes "audit"; options = log_options }
 -- what of a log is drawn
 abbrev pub part_options : List LineOption
 part_options =
-    number explained_line ∷ number first_line ∷ number last_line ∷ number around_line ∷ number rows_around ∷ flag only_chain ∷ []
+    word explained_line ∷ word first_line ∷ word last_line ∷ word around_line ∷ number rows_around ∷ flag only_chain ∷ []
 
 -- how a log is read, and what of it is drawn
 abbrev pub draw_log_options : List LineOption
@@ -199,10 +194,18 @@ subcommands =
     ∷ subcommand_storm ∷ subcommand_threads ∷ []
 
 -- the options that take numbers
-abbrev pub number_names : List Text
-number_names =
-    nodes.name ∷ capacity.name ∷ limit.name ∷ steps.name ∷ seed.name ∷ explain.name ∷ from.name ∷ to.name ∷ around_line.name ∷ rows_around.name
-    ∷ packed.name ∷ tolerance.name ∷ []
+abbrev pub all_numbers : List Text
+all_numbers =
+    nodes.name ∷ capacity.name ∷ limit.name ∷ steps.name ∷ seed.name ∷ explain.name ∷ from.name ∷ to.name ∷ rows_around.name ∷ packed.name
+    ∷ tolerance.name ∷ []
+
+-- those of them that do so in `draw-log`
+abbrev pub draw_log_numbers : List Text
+draw_log_numbers = rows_around.name ∷ packed.name ∷ tolerance.name ∷ []
+
+-- those that do so in a subcommand, or maybe in another one
+abbrev pub number_names : (subcommand : Text) → List Text
+number_names name = if bytes_eq name (codes "draw-log") then draw_log_numbers else all_numbers
 
 -- a command with these subcommands as well
 abbrev pub with_each : List Subcommand → App → App
@@ -269,10 +272,11 @@ IsReceivesOf rows given = unwrap_or (first_of receives rows) (codes "tick") ≡ 
 abbrev pub IsNoReceives : List Row → Type 0
 IsNoReceives rows = (text : Text) × (first_of receives rows ≡ Some text) × ((given : Receives) → text ≢ receives_word given)
 
--- bad records are left out just if `--lenient` was given
+-- bad records are left out just if `--lenient` was given, and each is told just if `--all-faults` was
 abbrev pub IsFaultRuleOf : List Row → FaultRule → Type 0
-IsFaultRuleOf rows First = IsFlagOf rows lenient false
-IsFaultRuleOf rows LeaveOut = IsFlagOf rows lenient true
+IsFaultRuleOf rows First = IsFlagOf rows lenient false × IsFlagOf rows all_faults false
+IsFaultRuleOf rows LeaveOut = IsFlagOf rows lenient true × IsFlagOf rows all_faults false
+IsFaultRuleOf rows TellEach = IsFlagOf rows lenient false × IsFlagOf rows all_faults true
 
 -- how records are read is what was given: readings are exact if no tolerance is
 pub record AreLogRules (rows : List Row) (given : LogRules) : Type 0 where
@@ -286,12 +290,13 @@ pub record AreLogRules (rows : List Row) (given : LogRules) : Type 0 where
   pub units_are : AreUnitsOf rows given.units
 
 -- what of how records are read no order says: `--field` or `--kind` is given without `--jsonl`, or with a text that says none; or `--resent` with a word
--- other than `first` and `last`; or there are no units
+-- other than `first` and `last`; or `--lenient` with `--all-faults`; or there are no units
 abbrev pub IsRecordsMistake : List Row → RecordsMistake → Type 0
 IsRecordsMistake rows mistake.WithoutJson = IsFlagOf rows jsonl false × (is_json_given rows ≡ true)
 IsRecordsMistake rows mistake.Field = LacksMeaning field_of_text (texts_of_option rows field)
 IsRecordsMistake rows mistake.Kind = LacksMeaning kind_of_text (texts_of_option rows kind)
 IsRecordsMistake rows mistake.Resent = IsNoResent rows
+IsRecordsMistake rows mistake.Faults = IsFlagOf rows lenient true × IsFlagOf rows all_faults true
 IsRecordsMistake rows m = IsUnitsMistake (first_of reading_unit rows) (first_of l_unit rows) m
 
 -- no rules say how records are read: stamps have two forms, or `--receives` has another word than `tick`, `merge` and `merge-clock`, or `--unsent`
@@ -309,19 +314,20 @@ pub record AreAuditOptions (rows : List Row) (given : AuditOptions) : Type 0 whe
   pub strict_is : IsFlagOf rows strict given.strict
   pub limit_is : IsOptionalNumber rows limit given.limit
   pub report_is : IsFlagOf rows report given.report
+  pub groups_are : IsFlagOf rows groups given.groups
 
 -- which rows of a log are drawn: those from one event to another, or as many about an event as are given, or 40
 abbrev pub AreLogRows : List Row → LogRows → Type 0
 AreLogRows rows (Between first last) =
-    IsOptionalNumber rows first_line first × IsOptionalNumber rows last_line last × IsLeftOut rows around_line × IsLeftOut rows rows_around
+    IsOptionalLine rows first_line first × IsOptionalLine rows last_line last × IsLineLeftOut rows around_line × IsLeftOut rows rows_around
 AreLogRows rows (Around line n) =
-    IsNumberOf rows around_line line × IsNumberOr rows rows_around USUAL_ROWS n × IsLeftOut rows first_line × IsLeftOut rows last_line
+    IsLineOf rows around_line line × IsNumberOr rows rows_around USUAL_ROWS n × IsLineLeftOut rows first_line × IsLineLeftOut rows last_line
 
 -- what of a log is drawn: some rows, or with `--only-chain` no rows but the chain that is explained
 abbrev pub IsLogPart : List Row → LogPart → Type 0
 IsLogPart rows (Rows drawn explained) =
-    AreLogRows rows drawn × IsOptionalNumber rows explained_line explained × IsFlagOf rows only_chain false
-IsLogPart rows (Chain line) = AreLogRows rows (Between None None) × IsNumberOf rows explained_line line × IsFlagOf rows only_chain true
+    AreLogRows rows drawn × IsOptionalLine rows explained_line explained × IsFlagOf rows only_chain false
+IsLogPart rows (Chain line) = AreLogRows rows (Between None None) × IsLineOf rows explained_line line × IsFlagOf rows only_chain true
 
 -- the options of `draw-log` are what was given
 pub record AreDrawLogOptions (rows : List Row) (given : DrawLogOptions) : Type 0 where
@@ -357,13 +363,14 @@ IsHistoryMistake rows (fault.Part part.ChainAndRows) = IsFlagOf rows only_chain 
 IsHistoryMistake rows _ = ⊥
 
 -- what of a part of a log no order says: `--rows` is given without `--around`, or this with `--from` or `--to`; or `--only-chain` without
--- `--explain`, or with an option of rows
+-- `--explain`, or with an option of rows; or an option of a line has a text that tells none
 abbrev pub IsPartMistake : List Row → PartMistake → Type 0
-IsPartMistake rows part.RowsAlone = IsGiven rows rows_around × IsLeftOut rows around_line
-IsPartMistake rows part.AroundBetween = IsGiven rows around_line × (IsGiven rows first_line ⊎ IsGiven rows last_line)
-IsPartMistake rows part.ChainOfNone = IsFlagOf rows only_chain true × IsLeftOut rows explained_line
+IsPartMistake rows part.RowsAlone = IsGiven rows rows_around × IsLineLeftOut rows around_line
+IsPartMistake rows part.AroundBetween = IsLineGiven rows around_line × (IsLineGiven rows first_line ⊎ IsLineGiven rows last_line)
+IsPartMistake rows part.ChainOfNone = IsFlagOf rows only_chain true × IsLineLeftOut rows explained_line
 IsPartMistake rows part.ChainAndRows =
-    IsFlagOf rows only_chain true × (IsGiven rows around_line ⊎ (IsGiven rows first_line ⊎ IsGiven rows last_line))
+    IsFlagOf rows only_chain true × (IsLineGiven rows around_line ⊎ (IsLineGiven rows first_line ⊎ IsLineGiven rows last_line))
+IsPartMistake rows (part.NoLine option) = IsLineOption option.now × TellsNoLine rows option.now
 
 -- what of how a log is to be drawn no order says: no rules say how its records are read, or no part is drawn so
 abbrev pub IsLogMistake : List Row → LineFault → Type 0
@@ -372,7 +379,7 @@ IsLogMistake rows f = IsRulesMistake rows f
 
 -- what of the options of the subcommand of this name no order says: a number with a sign; the others are of `draw`, `audit`, `draw-log` or `vectors`
 abbrev pub IsMistakeOf : Text → List Row → LineFault → Type 0
-IsMistakeOf name rows (fault.Sign option) = IsSignedAmong rows number_names option.now
+IsMistakeOf name rows (fault.Sign option) = IsSignedAmong rows (number_names name) option.now
 IsMistakeOf name rows f =
     ((name ≡ codes "draw") × IsHistoryMistake rows f)
     ⊎ (((name ≡ codes "audit") × IsAuditMistake rows f)

@@ -100,7 +100,8 @@ A record of a log is a row of CSV, which claims one event with its stamp (L, C):
   restart,NODE,READING,L,C[,LABEL]           NODE came back with its clock restored to (L, C), a bound that it had kept
 Nodes and messages have names, READING may be empty, and so may L and C of a receive. The events of a node stand as they happened, so the
 logs of several nodes may follow one another. With `--packed B` or `--dotted`, L and C are one field. If the first record begins with `kind`,
-it names the columns: `node`, `reading`, `l` and `c` or `stamp`, `message` and `label`. There a receive may also tell the stamp that its
+it names the columns: `node`, `reading`, `l` and `c` or `stamp`, `message`, `label` and `seq`: by this number the
+events of a node stand then, and where it is equal by their lines. There a receive may also tell the stamp that its
 message carried, in `carried_l` and `carried_c`, or `carried`; then no record need send the message. It may name the node that sent, in
 `from`, in place of the message, and a send may then leave `message` empty. With `--tolerance D` a reading
 above L by at most D is taken as L, and one farther above as D less. With `--receives merge` a clock that receives takes the greater of
@@ -115,7 +116,8 @@ A line whose `kind` is none of these words is left out, unless `--kind send=post
 The answer has these rows, with lines counted from 1:
   count,VERDICT,N                    so many events have a verdict, by the words of `hlc judge`, or `carried`: ahead of a full C
   cause,LINE,NODE,behind             the clock broke its rule: L is below the reading, or what came from outside carried no lower stamp
-  cause,LINE,NODE,not-above,BEFORE   it did: the event on line BEFORE, its node's last or the send, has no lower stamp
+  cause,LINE,NODE,not-above,BEFORE   it did: the event on line BEFORE, its node's last or the send, has no lower stamp; `,swapped` at
+                                     the end says that both stamps would be right with the two lines in each other's place
   cause,LINE,NODE,ahead,L,C          it did: (L, C) was enough to be above the stamps directly before
   cause,LINE,NODE,carried,SEND       the message carried another stamp than its send, on line SEND, claims
   node,NODE,EVENTS,AHEAD,LINE,ORIGIN how far the least stamps ran ahead of its clock, the first line where,
@@ -131,9 +133,12 @@ The answer has these rows, with lines counted from 1:
   left-out,WORD,N,LINE               with `--lenient`, so many bad records were, by the word of their fault, and the first line of them
   over,NODE,N,LINE,AHEAD,ORIGIN      with `--limit D`, N events claim an L more than D above their reading: the first line of them, and
                                      how far the furthest is ahead, and the line where that L came in
+  group,NODE,RULE,OF,N,LINE          with `--groups`, N causes at events of NODE have the word RULE and compare with a stamp of the node OF,
+                                     its own or that of a message, or with a reading, if OF is empty; and the line of the first
 If the input is no log, the answer is the one row `bad,LINE,WHY`, and the status is 4; a column that an object lacks, or that is badly
-written, is named besides. With `--lenient` bad records are left out, but for a header, and for one whose quotation mark is open. If the log has
-no event, a line on standard error says so, and with `--strict` the status is 4.
+written, is named besides, and so is a message that is sent twice or isn't sent. With `--all-faults` each such record has its row. With
+`--lenient` bad records are left out, but for a header, and for one whose quotation mark is open. If the log has no event, a line on standard error says so, and with `--strict` the
+status is 4.
 
 Questions, as records of the log or each by `--ask`, are answered in place of that, or after it with `--report`:
   explain,LINE  check,LINE,LINE..  relation,LINE,LINE  influenced,LINE  drift,NODE   as `hlc run` does, by lines
@@ -147,9 +152,10 @@ answers, among other rows, `cause,2,a,ahead,10,1`: on line 2 the stamp (10, 1) w
 pub const DRAW_LOG: &str = "Draws a log of claimed stamps from standard input, as SVG";
 
 pub const LOG_PICTURE: &str = "\
-The log is that of `hlc audit`. Time runs down, in the order of the least stamps: each node has a lane, and each event a dot on it with
-its line, and beside the dots a row with the claimed stamp. A dot's form and colour tell the verdict on the stamp, and it has a ring where
-the clock broke its rule. With `--explain LINE` the chain is marked that explains the least stamp of that event.
+The log is that of `hlc audit`. Time runs down, in the order of the least stamps: each node with a row has a lane, and each event a dot
+on it with its line, and beside the dots a row with the claimed stamp. A dot's form and colour tell the verdict on the stamp, and it has a
+ring where the clock broke its rule. With `--explain LINE` the chain is marked that explains the least stamp of that event. A LINE of a file is
+named as `NAME:LINE`, as rows tell it, if the log was put together of several files with marks `==> NAME <==` between them.
 
 At most 500 events are drawn if `--to` isn't given. With `--around LINE` the N rows about that event are drawn, as many above it as
 below if there are so many, and 40 if `--rows` isn't given. With `--only-chain` nothing is drawn but the chain that `--explain` names, with a

@@ -6,7 +6,7 @@
 //! - `order` reads the arguments.
 //! - `Order` is what they ask for, one variant for each subcommand; `AuditOptions` is what `audit` is given, and `DrawLogOptions` what
 //!   `draw-log` is, with how lines of JSON are read, if the log has them. `HistoryPart` and `LogPart` say what of a history or a log is
-//!   drawn.
+//!   drawn, this by the lines of events (`LogLine`).
 //! - `LineFault` is a mistake in the arguments, or a text that they ask for, such as the help.
 //! - `hint_for` says what else the user is told of arguments that are refused: a range of numbers, or where a log is read from.
 //!
@@ -32,6 +32,7 @@
 
 mod asked;
 mod cluster_options;
+mod fault_option;
 mod help;
 mod hint;
 mod history_options;
@@ -40,6 +41,7 @@ mod line;
 mod line_command;
 mod line_fault;
 mod line_order;
+mod log_line;
 mod log_options;
 mod log_part;
 mod number_signs;
@@ -53,5 +55,5 @@ pub use hint::{Hint, hint_for, sign_hint};
 pub use line::order;
 pub use line_fault::{LineFault, PartMistake, RecordsMistake};
 pub use line_order::{
-    AuditOptions, DrawLogOptions, HistoryPart, LogPart, LogRows, Order, USUAL_ROWS,
+    AuditOptions, DrawLogOptions, HistoryPart, LogLine, LogPart, LogRows, Order, USUAL_ROWS,
 };

@@ -15,7 +15,7 @@ use crate::line_fault::LineFault;
 use crate::line_order::{HistoryPart, Order};
 use crate::log_options::{audit_options, log_rules};
 use crate::log_part::draw_log_options;
-use crate::number_signs::{NUMBER_NAMES, signed_option};
+use crate::number_signs::{number_names, signed_option};
 use crate::option_value::{drift_limit, flag};
 use clap::ArgMatches;
 use clap::error::ErrorKind;
@@ -55,7 +55,7 @@ fn draw_log_order(alloc: Global, options: &ArgMatches<'_>) -> Result<Order, Line
     ensures found { IfOk result (IsOrderOf (codes "draw-log") (rows_of (found_of options.now))) }
     ensures mistaken { IfErr result (UnlessMemory (IsMistakeOf (codes "draw-log") (rows_of (found_of options.now)))) }
 {
-    let drawn = draw_log_options(options)?;
+    let drawn = draw_log_options(alloc, options)?;
     let json = json_rules(alloc, options)?;
     Ok(Order::DrawLog {
         options: drawn,
@@ -116,7 +116,7 @@ fn entered(alloc: Global, matches: &ArgMatches<'_>) -> Result<Order, LineFault>
     ensures mistaken { IfErr result (IsRefusedFound (subcommand_rows_of matches.now)) }
 {
     match matches.subcommand() {
-        Some((name, options)) => match signed_option(options, &NUMBER_NAMES) {
+        Some((name, options)) => match signed_option(options, number_names(name)) {
             Some(signed) => Err(LineFault::Sign(signed)),
             None => order_of(alloc, name, options),
         },

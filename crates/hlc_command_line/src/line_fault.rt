@@ -16,6 +16,8 @@ pub enum PartMistake {
     ChainOfNone,
     /// A chain is to be drawn alone, and some events or rows.
     ChainAndRows,
+    /// A text that names no line of a log is given, for the option of this name.
+    NoLine(&'static str),
 }
 
 impl fmt::Display for PartMistake {
@@ -25,12 +27,19 @@ impl fmt::Display for PartMistake {
     ghost output = { λ mistake. Some (part_mistake_text mistake) };
 
     fn fmt<W: fmt::Write>(&self, f: &mut fmt::Formatter<W>) -> fmt::Result {
-        f.write_str(match self {
+        let text = match *self {
+            PartMistake::NoLine(option) => {
+                return write!(
+                    f,
+                    "--{option} takes LINE or NAME:LINE, with a LINE of at least 1"
+                );
+            }
             PartMistake::RowsAlone => "--rows needs --around",
             PartMistake::AroundBetween => "--around takes no --from or --to",
             PartMistake::ChainOfNone => "--only-chain needs --explain",
             PartMistake::ChainAndRows => "--only-chain takes no --from, --to or --around",
-        })
+        };
+        f.write_str(text)
     }
 }
 
@@ -51,6 +60,8 @@ pub enum RecordsMistake {
     LUnit,
     /// A word is given for which send of a message that is sent again a receive is of that names none.
     Resent,
+    /// Bad records are to be left out, and each is to be told.
+    Faults,
 }
 
 impl fmt::Display for RecordsMistake {
@@ -63,7 +74,7 @@ impl fmt::Display for RecordsMistake {
         f.write_str(match self {
             RecordsMistake::WithoutJson => "--field and --kind need --jsonl",
             RecordsMistake::Field => {
-                "--field takes NAME=PATH, as l=.hlc.l, of kind, node, reading, l, c, stamp, message, from, carried, carried_l, carried_c or label"
+                "--field takes NAME=PATH, as l=.hlc.l, of kind, node, reading, l, c, stamp, message, from, carried, carried_l, carried_c, seq or label"
             }
             RecordsMistake::Kind => {
                 "--kind takes WORD=VALUE,VALUE.., as send=posted,sent, of local, send, receive or restart"
@@ -72,6 +83,9 @@ impl fmt::Display for RecordsMistake {
             RecordsMistake::ReadingUnit => "--reading-unit takes `s`, `ms`, `us` or `ns`",
             RecordsMistake::LUnit => "--l-unit takes `s`, `ms`, `us`, `ns` or `ntp64`",
             RecordsMistake::Resent => "--resent takes `first` or `last`",
+            RecordsMistake::Faults => {
+                "--lenient takes no --all-faults: bad records are left out, or each is told"
+            }
         })
     }
 }

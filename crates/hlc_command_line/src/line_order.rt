@@ -1,5 +1,5 @@
 use hlc_json_lines::JsonRules;
-use hlc_log_text::{LogQuestion, LogRules};
+use hlc_log_text::{Location, LogQuestion, LogRules};
 use hlc_stamp::{EventId, Settings};
 
 /// How a log is read and audited.
@@ -13,49 +13,60 @@ pub struct AuditOptions {
     pub limit: Option<u64>,
     /// Whether the report is also written if something is asked.
     pub report: bool,
+    /// Whether the causes are also told in groups.
+    pub groups: bool,
 }
 
 /// How many rows about an event are drawn if no other number is given.
 pub const USUAL_ROWS: u32 = 40;
 
+/// How a line of a log is named.
+#[derive(Debug, Drop)]
+pub enum LogLine {
+    /// By where it stands in the files that the log was put together of.
+    Located(Location),
+    /// By its number, counted over all files, as an editor does.
+    Counted(u32),
+}
+
 /// Which rows of a log are drawn. Events are named by their lines.
-#[derive(Clone, Copy, Debug)]
+#[derive(Debug, Drop)]
 pub enum LogRows {
     /// Those from one event to another.
     Between {
         /// The line of the first event, if it isn't the first of all.
-        from: Option<u32>,
+        from: Option<LogLine>,
         /// The line of the last event, if one is named.
-        to: Option<u32>,
+        to: Option<LogLine>,
     },
     /// Those about an event.
     Around {
         /// The event's line.
-        line: u32,
+        line: LogLine,
         /// How many rows at most.
         rows: u32,
     },
 }
 
 /// What of a log is drawn. Events are named by their lines.
-#[derive(Clone, Copy, Debug)]
+#[derive(Debug, Drop)]
 pub enum LogPart {
     /// Some of its rows.
     Rows {
         /// Which ones.
         rows: LogRows,
         /// The line of the event whose chain is to be marked, if there is one.
-        explained: Option<u32>,
+        explained: Option<LogLine>,
     },
     /// The chain that explains the stamp of an event, and nothing else.
     Chain {
         /// The event's line.
-        line: u32,
+        line: LogLine,
     },
 }
 
 /// How a log is read, and what of it is drawn.
-#[derive(Clone, Copy, Debug)]
+#[derive(Debug, Drop)]
 pub struct DrawLogOptions {
     /// How its records are read.
     pub records: LogRules,

@@ -5,8 +5,9 @@ ghost use Rattle.clap.specs.Words.{found_of, rows_of};
 ghost use Rattle.hlc_command_line.specs.NumberOption.{HasNumber, IsOptionalNumber};
 ghost use Rattle.hlc_command_line.specs.LineOption.{HasFlag, HaveOptions, IsOtherWord, IsWordOf};
 ghost use Rattle.hlc_command_line.specs.JsonOptions.{IsSyntaxOf, jsonl};
-ghost use Rattle.hlc_command_line.specs.Line.{AreAuditOptions, AreLogRules, AreTwoForms, IsAuditMistake, IsFaultRuleOf, IsFormOf, IsNoReceives, IsNumberOr, IsReceivesOf, IsRulesMistake, dotted, lenient, log_options, packed, tolerance, unsent};
+ghost use Rattle.hlc_command_line.specs.Line.{AreAuditOptions, AreLogRules, AreTwoForms, IsAuditMistake, IsFormOf, IsNoReceives, IsNumberOr, IsReceivesOf, IsRulesMistake, all_faults, dotted, lenient, log_options, packed, tolerance, unsent};
 
+use crate::fault_option::fault_rule;
 use crate::line_fault::LineFault;
 use crate::line_order::AuditOptions;
 use crate::option_value::{drift_limit, flag};
@@ -14,7 +15,7 @@ use crate::resent_option::resent;
 use crate::unit_options::units;
 use clap::ArgMatches;
 use hlc_causality::Receives;
-use hlc_log_text::{FaultRule, LogRules, PackedBits, RecordSyntax, StampForm};
+use hlc_log_text::{LogRules, PackedBits, RecordSyntax, StampForm};
 
 // The number of bits in which `c` is packed, of a subcommand that has the option.
 fn packed_number(options: &ArgMatches<'_>) -> Option<u32>
@@ -93,18 +94,6 @@ fn unsent_local(options: &ArgMatches<'_>) -> Result<bool, LineFault>
     }
 }
 
-// What becomes of records that are bad, of a subcommand that has the option.
-fn fault_rule(options: &ArgMatches<'_>) -> FaultRule
-    requires { HasFlag (rows_of (found_of options.now)) lenient }
-    ensures { IsFaultRuleOf (rows_of (found_of options.now)) result }
-{
-    if flag(options, "lenient") {
-        FaultRule::LeaveOut
-    } else {
-        FaultRule::First
-    }
-}
-
 // In which syntax the records of a log are written, of a subcommand that has the option.
 fn syntax(options: &ArgMatches<'_>) -> RecordSyntax
     requires { HasFlag (rows_of (found_of options.now)) jsonl }
@@ -123,6 +112,7 @@ pub(crate) fn log_rules(options: &ArgMatches<'_>) -> Result<LogRules, LineFault>
     requires dot { HasFlag (rows_of (found_of options.now)) dotted }
     requires known { HasNumber (rows_of (found_of options.now)) tolerance }
     requires leave { HasFlag (rows_of (found_of options.now)) lenient }
+    requires tell { HasFlag (rows_of (found_of options.now)) all_faults }
     requires json { HasFlag (rows_of (found_of options.now)) jsonl }
     ensures found { IfOk result (AreLogRules (rows_of (found_of options.now))) }
     ensures mistaken { IfErr result (IsRulesMistake (rows_of (found_of options.now))) }
@@ -133,7 +123,7 @@ pub(crate) fn log_rules(options: &ArgMatches<'_>) -> Result<LogRules, LineFault>
         receives: receives(options)?,
         unsent_local: unsent_local(options)?,
         resent: resent(options)?,
-        faults: fault_rule(options),
+        faults: fault_rule(options)?,
         syntax: syntax(options),
         units: units(options)?,
     })
@@ -150,5 +140,6 @@ pub(crate) fn audit_options(options: &ArgMatches<'_>) -> Result<AuditOptions, Li
         strict: flag(options, "strict"),
         limit: drift_limit(options),
         report: flag(options, "report"),
+        groups: flag(options, "groups"),
     })
 }

@@ -115,47 +115,35 @@ pub(crate) const TO: OptionRule = OptionRule {
     },
 };
 
-// A number from 1 on: an option of an event's line takes any that a log may have.
-const POSITIVE: ValueParser<'static> = ValueParser::Unsigned(1, u32::MAX as u64);
+// What an option of an event's line takes. `LINE` in its help stands for `NAME:LINE` too.
+const EVENT_LINE: Takes = Takes::One {
+    value: "LINE",
+    parser: ValueParser::String,
+    required: false,
+};
 
 pub(crate) const EXPLAIN_LINE: OptionRule = OptionRule {
     name: "explain",
     text: "The line of the event whose chain is marked",
-    takes: Takes::One {
-        value: "LINE",
-        parser: POSITIVE,
-        required: false,
-    },
+    takes: EVENT_LINE,
 };
 
 pub(crate) const FROM_LINE: OptionRule = OptionRule {
     name: "from",
     text: "The line of the first event that is drawn",
-    takes: Takes::One {
-        value: "LINE",
-        parser: POSITIVE,
-        required: false,
-    },
+    takes: EVENT_LINE,
 };
 
 pub(crate) const TO_LINE: OptionRule = OptionRule {
     name: "to",
     text: "The line of the last event that is drawn",
-    takes: Takes::One {
-        value: "LINE",
-        parser: POSITIVE,
-        required: false,
-    },
+    takes: EVENT_LINE,
 };
 
 pub(crate) const AROUND_LINE: OptionRule = OptionRule {
     name: "around",
     text: "The line of an event about which rows are drawn",
-    takes: Takes::One {
-        value: "LINE",
-        parser: POSITIVE,
-        required: false,
-    },
+    takes: EVENT_LINE,
 };
 
 pub(crate) const ROWS: OptionRule = OptionRule {
@@ -163,7 +151,7 @@ pub(crate) const ROWS: OptionRule = OptionRule {
     text: "With --around, how many rows are drawn at most: 40 if it is left out",
     takes: Takes::One {
         value: "N",
-        parser: POSITIVE,
+        parser: ValueParser::Unsigned(1, u32::MAX as u64),
         required: false,
     },
 };
@@ -259,6 +247,12 @@ pub(crate) const REPORT: OptionRule = OptionRule {
     takes: Takes::Nothing,
 };
 
+pub(crate) const GROUPS: OptionRule = OptionRule {
+    name: "groups",
+    text: "Also writes the causes in groups, at the end",
+    takes: Takes::Nothing,
+};
+
 pub(crate) const JSONL: OptionRule = OptionRule {
     name: "jsonl",
     text: "The log is lines of JSON: each object tells of an event",
@@ -268,6 +262,12 @@ pub(crate) const JSONL: OptionRule = OptionRule {
 pub(crate) const LENIENT: OptionRule = OptionRule {
     name: "lenient",
     text: "Records that are bad are left out",
+    takes: Takes::Nothing,
+};
+
+pub(crate) const ALL_FAULTS: OptionRule = OptionRule {
+    name: "all-faults",
+    text: "Each record that is bad is told, and not just the first",
     takes: Takes::Nothing,
 };
 

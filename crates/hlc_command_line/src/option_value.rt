@@ -32,7 +32,7 @@ pub(crate) fn event(options: &ArgMatches<'_>, name: &str) -> Option<EventId>
     number_of_event(options, name).map(|number| EventId(number as u32))
 }
 
-// A number from 1 on, as that of a line, of a subcommand that has the option.
+// A number from 1 on, of a subcommand that has the option.
 pub(crate) fn positive(options: &ArgMatches<'_>, name: &str) -> Option<u32>
     requires { HasNumber (rows_of (found_of options.now)) (positive name.now) }
     ensures { IsOptionalNumber (rows_of (found_of options.now)) (positive name.now) result }

@@ -5,9 +5,10 @@ ghost use Rattle.hlc_command_line.specs.Subcommand.{app_of_subcommand};
 
 use crate::help;
 use crate::option_rule::{
-    AROUND_LINE, ASK, AUDIT_LIMIT, CAPACITY, DOTTED, EXPLAIN, EXPLAIN_LINE, FIELD, FROM, FROM_LINE,
-    JSONL, KIND, L_UNIT, LENIENT, LIMIT, NODES, ONLY_CHAIN, OptionRule, PACKED, READING_UNIT,
-    RECEIVES, REPORT, RESENT, ROWS, SEED, STEPS, STRICT, TO, TO_LINE, TOLERANCE, UNSENT, VECTOR,
+    ALL_FAULTS, AROUND_LINE, ASK, AUDIT_LIMIT, CAPACITY, DOTTED, EXPLAIN, EXPLAIN_LINE, FIELD,
+    FROM, FROM_LINE, GROUPS, JSONL, KIND, L_UNIT, LENIENT, LIMIT, NODES, ONLY_CHAIN, OptionRule,
+    PACKED, READING_UNIT, RECEIVES, REPORT, RESENT, ROWS, SEED, STEPS, STRICT, TO, TO_LINE,
+    TOLERANCE, UNSENT, VECTOR,
 };
 
 // A subcommand, its help and its options.
@@ -54,7 +55,7 @@ static TRACE_OPTIONS: [OptionRule; 4] = [NODES, CAPACITY, LIMIT, VECTOR];
 
 static JUDGE_OPTIONS: [OptionRule; 0] = [];
 
-static AUDIT_OPTIONS: [OptionRule; 16] = [
+static AUDIT_OPTIONS: [OptionRule; 18] = [
     PACKED,
     DOTTED,
     TOLERANCE,
@@ -62,6 +63,7 @@ static AUDIT_OPTIONS: [OptionRule; 16] = [
     UNSENT,
     RESENT,
     LENIENT,
+    ALL_FAULTS,
     JSONL,
     FIELD,
     KIND,
@@ -71,9 +73,10 @@ static AUDIT_OPTIONS: [OptionRule; 16] = [
     AUDIT_LIMIT,
     ASK,
     REPORT,
+    GROUPS,
 ];
 
-static DRAW_LOG_OPTIONS: [OptionRule; 18] = [
+static DRAW_LOG_OPTIONS: [OptionRule; 19] = [
     PACKED,
     DOTTED,
     TOLERANCE,
@@ -81,6 +84,7 @@ static DRAW_LOG_OPTIONS: [OptionRule; 18] = [
     UNSENT,
     RESENT,
     LENIENT,
+    ALL_FAULTS,
     JSONL,
     FIELD,
     KIND,
@@ -94,7 +98,7 @@ static DRAW_LOG_OPTIONS: [OptionRule; 18] = [
     ONLY_CHAIN,
 ];
 
-static VECTORS_OPTIONS: [OptionRule; 12] = [
+static VECTORS_OPTIONS: [OptionRule; 13] = [
     PACKED,
     DOTTED,
     TOLERANCE,
@@ -102,6 +106,7 @@ static VECTORS_OPTIONS: [OptionRule; 12] = [
     UNSENT,
     RESENT,
     LENIENT,
+    ALL_FAULTS,
     JSONL,
     FIELD,
     KIND,

@@ -1,5 +1,5 @@
 -- The parts of a picture of a chain, one after the other.
-use Rattle.std.proofs.Common.{◌≡◌, ◌++◌, List, codes, flat_map, map, refl}
+use Rattle.std.proofs.Common.{◌≡◌, ◌++◌, ℕ, List, codes, flat_map, map, refl}
 use Rattle.std.specs.Prelude.{Some}
 use Rattle.hlc_stamp.specs.declared.id.EventId.{EventId}
 use Rattle.hlc_causality.specs.Places.{places_below}
@@ -14,17 +14,17 @@ use Rattle.hlc_figures.specs.declared.layer.Layer.TheVariants.{Back, Front, Line
 use Rattle.hlc_figures.proofs.Cells.{flat_map-map}
 
 pub parts_of_chain :
-    (c : Content) (frame : Frame) (e : EventId) (rows : List ChainRow) →
+    (c : Content) (frame : Frame) (lanes : List ℕ) (e : EventId) (rows : List ChainRow) →
     head_text frame (caption_of c (Some e) frame) c.legend (map (heading_of c frame) (places_below c.columns))
-    ++ (flat_map (λ row. item_text Back (item_of c frame row)) rows
-    ++ (flat_map (λ node. named_lane_text (named_lane_of c frame node)) (places_below frame.nodes)
-    ++ (flat_map (λ row. item_text Lines (item_of c frame row)) rows
-    ++ (flat_map (λ row. item_text Front (item_of c frame row)) rows ++ codes "</svg>\n"))))
-    ≡ chain_picture_text (chain_picture_in c frame e rows)
+    ++ (flat_map (λ row. item_text Back (item_of c frame lanes row)) rows
+    ++ (flat_map (λ node. named_lane_text (named_lane_of c frame lanes node)) lanes
+    ++ (flat_map (λ row. item_text Lines (item_of c frame lanes row)) rows
+    ++ (flat_map (λ row. item_text Front (item_of c frame lanes row)) rows ++ codes "</svg>\n"))))
+    ≡ chain_picture_text (chain_picture_in c frame lanes e rows)
 unfolding chain_picture_text
-parts_of_chain c frame e rows =
-    let back = flat_map-map (item_text Back) (item_of c frame) rows in
-    let lanes = flat_map-map named_lane_text (named_lane_of c frame) (places_below frame.nodes) in
-    let lines = flat_map-map (item_text Lines) (item_of c frame) rows in
-    let front = flat_map-map (item_text Front) (item_of c frame) rows in
-    rw (back, lanes, lines, front) refl
+parts_of_chain c frame lanes e rows =
+    let back = flat_map-map (item_text Back) (item_of c frame lanes) rows in
+    let named = flat_map-map named_lane_text (named_lane_of c frame lanes) lanes in
+    let lines = flat_map-map (item_text Lines) (item_of c frame lanes) rows in
+    let front = flat_map-map (item_text Front) (item_of c frame lanes) rows in
+    rw (back, named, lines, front) refl

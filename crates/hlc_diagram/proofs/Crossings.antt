@@ -1,26 +1,34 @@
 -- The arrows over the borders of a picture.
-use Rattle.std.proofs.Common.{◌≡◌, ◌∙◌, ℕ, ◌<◌, ◌≤◌, Bool, true, false, inl, inr, List, [], ◌∷◌, ◌++◌, Contains, Option, Some, None, arith, find, map, refl, subst, sym}
+use Rattle.std.proofs.Common.{◌≡◌, ◌∙◌, ℕ, ◌+◌, ◌<◌, ◌≤◌, Bool, true, false, inl, inr, List, [], ◌∷◌, ◌++◌, Contains, Option, Some, None, arith, find, map, refl, subst, sym}
 use Rattle.std.specs.List.{cons_option, filter_map}
 use Rattle.std.specs.Prelude.{nat_le, nat_lt}
-use Rattle.std.proofs.lemmas.Bool.{cases_Bool}
+use Rattle.std.proofs.lemmas.Bool.{cases_Bool, cases_eq}
 use Rattle.std.proofs.lemmas.Bool.Decides.{nat_tests}
 use Rattle.std.proofs.lemmas.List.Elements.{Contains-append_cases}
 use Rattle.hlc_stamp.specs.declared.id.EventId.{EventId}
 use Rattle.hlc_causality.specs.Causality.{IsSendOf, skeleton_at}
 use Rattle.hlc_causality.specs.Neighbours.{deliveries_of}
 use Rattle.hlc_causality.proofs.Neighbours.{deliveries_of-complete}
-use Rattle.hlc_figures.specs.Content.{Content, SendsComeFirst}
-use Rattle.hlc_figures.specs.Figure.{end_at, entering_from, entering_of, first_after, goes_on, is_step, leaving_of, leaving_to}
-use Rattle.hlc_diagram.specs.Laws.{ArrowsComeIn, ArrowsLeave, ComesIn, CrossesBorder, IsInRange, Leaves, MessagesComeIn, MessagesLeave}
+use Rattle.hlc_stamp.specs.Ids.{is_among}
+use Rattle.hlc_figures.specs.Columns.{lane_distance}
+use Rattle.hlc_figures.specs.Content.{Content, SendsComeFirst, node_at}
+use Rattle.hlc_figures.specs.Figure.{end_at, entering_from, entering_of, first_after, goes_on, is_step, leaving_of, leaving_to, turn_distance}
+use Rattle.hlc_figures.specs.Lanes.{lane_at}
+use Rattle.hlc_svg.specs.Frame.{x_of}
+use Rattle.hlc_diagram.specs.Laws.{ArrowsComeIn, ArrowsLeave, ComesIn, CrossesBorder, IsInRange, Leaves, MessagesComeIn, MessagesLeave, TurnsTowards}
 use Rattle.hlc_figures.specs.FigureText.{Figure}
 use Rattle.hlc_diagram.specs.Picture.{picture_of}
 use Rattle.hlc_svg.specs.declared.frame.Frame.{Frame}
 use Rattle.hlc_svg.specs.declared.frame.TheConstants.{TOP}
+use Rattle.hlc_svg.specs.declared.shapes.Border.{Border}
 use Rattle.hlc_svg.specs.declared.shapes.Border.TheVariants.{Lower, Upper}
 use Rattle.hlc_svg.specs.declared.shapes.End.{End}
 use Rattle.hlc_diagram.specs.declared.view.View.{View}
-use Rattle.hlc_diagram.proofs.Drawn.{count, dot, dot_there, drawn_there, figure, first, frame, in_range}
+use Rattle.hlc_diagram.proofs.Drawn.{count, dot, dot_there, drawn_there, figure, first, frame, in_range, lanes}
+use Rattle.hlc_svg.proofs.Clear.{next_lane}
 use Rattle.hlc_figures.proofs.Links.{found_is_among}
+use Rattle.hlc_figures.proofs.NodeLanes.{counts_one}
+use Rattle.hlc_figures.proofs.NumberedDots.{left_arrows_have_room}
 use Rattle.hlc_figures.proofs.Placed.{in_one, made_of, parts_more}
 
 -- what is found passes, and if something passes, something is found
@@ -48,30 +56,35 @@ some_found test (y ∷ ys) x among passes =
     ]
 
 -- what is drawn of an event at a border, if it is an arrow over the upper one
-pub entering_kinds : (c : Content) (explained : Option EventId) (frame : Frame) (e : ℕ) (send : Option ℕ) (end : End) →
-    Contains (cons_option (entering_from c explained frame e send) []) end →
-    (s : ℕ) × (send ≡ Some s) × (s < frame.first) × (end_at c frame Upper e s (is_step c explained s e) ≡ end)
-entering_kinds c explained frame e None end h = let lt = h.1 in absurd (omega arith)
-entering_kinds c explained frame e (Some s) end h =
+pub entering_kinds : (c : Content) (explained : Option EventId) (frame : Frame) (lanes : List ℕ) (e : ℕ) (send : Option ℕ) (end : End) →
+    Contains (cons_option (entering_from c explained frame lanes e send) []) end →
+    (s : ℕ) × (send ≡ Some s) × (s < frame.first) × (end_at c frame lanes Upper e s (is_step c explained s e) ≡ end)
+entering_kinds c explained frame lanes e None end h = let lt = h.1 in absurd (omega arith)
+entering_kinds c explained frame lanes e (Some s) end h =
     elim (cases_Bool (nat_lt s frame.first)) [
       | inl before ↦
-          let one : Contains (end_at c frame Upper e s (is_step c explained s e) ∷ []) end = (rw before at h) in
+          let one : Contains (end_at c frame lanes Upper e s (is_step c explained s e) ∷ []) end = (rw before at h) in
           let lt : s < frame.first = grind (arith, nat_tests, before) in
-          (s, refl, lt, in_one (end_at c frame Upper e s (is_step c explained s e)) end one)
+          (s, refl, lt, in_one (end_at c frame lanes Upper e s (is_step c explained s e)) end one)
       | inr after ↦ let none : Contains [] end = (rw after at h) in let lt = none.1 in absurd (omega arith)
     ]
 
 -- and over the lower one
-pub leaving_kinds : (c : Content) (explained : Option EventId) (frame : Frame) (e : ℕ) (found : Option ℕ) (end : End) →
-    Contains (cons_option (leaving_to c explained frame e found) []) end →
-    (g : ℕ) × (found ≡ Some g) × (end_at c frame Lower e g (goes_on c explained frame e g) ≡ end)
-leaving_kinds c explained frame e None end h = let lt = h.1 in absurd (omega arith)
-leaving_kinds c explained frame e (Some g) end h =
-    (g, refl, in_one (end_at c frame Lower e g (goes_on c explained frame e g)) end h)
+pub leaving_kinds : (c : Content) (explained : Option EventId) (frame : Frame) (lanes : List ℕ) (e : ℕ) (found : Option ℕ) (end : End) →
+    Contains (cons_option (leaving_to c explained frame lanes e found) []) end →
+    (g : ℕ) × (found ≡ Some g) × (end_at c frame lanes Lower e g (goes_on c explained frame e g) ≡ end)
+leaving_kinds c explained frame lanes e None end h = let lt = h.1 in absurd (omega arith)
+leaving_kinds c explained frame lanes e (Some g) end h =
+    (g, refl, in_one (end_at c frame lanes Lower e g (goes_on c explained frame e g)) end h)
+
+-- lanes have room for an arrow that turns
+pub turn_room : (border : Border) (half : ℕ) → (half ≤ turn_distance border half) × (turn_distance border half + half ≤ lane_distance half)
+turn_room Upper half = (omega arith, omega arith)
+turn_room Lower half = (omega arith, omega arith)
 
 module _ (c : Content) (view : View) where
   abbrev pub entering_at : ℕ → List End
-  entering_at e = cons_option (entering_of c view.explained (frame c view) e) []
+  entering_at e = cons_option (entering_of c view.explained (frame c view) (lanes c view) e) []
 
   abbrev pub entering : List ℕ → List End
   entering places = filter_map (λ f. f.entering) (map (figure c view) places)
@@ -80,7 +93,7 @@ module _ (c : Content) (view : View) where
   entering_more places p = parts_more (λ (f : Figure). f.entering) (figure c view) places p
 
   abbrev pub leaving_at : ℕ → List End
-  leaving_at e = cons_option (leaving_of c view.explained (frame c view) e) []
+  leaving_at e = cons_option (leaving_of c view.explained (frame c view) (lanes c view) e) []
 
   abbrev pub leaving : List ℕ → List End
   leaving places = filter_map (λ f. f.leaving) (map (figure c view) places)
@@ -90,16 +103,52 @@ module _ (c : Content) (view : View) where
 
   -- the arrow over the upper border to a delivery, and the one over the lower border from a send
   abbrev pub end_to : (s f : ℕ) → End
-  end_to s f = end_at c (frame c view) Upper f s (is_step c view.explained s f)
+  end_to s f = end_at c (frame c view) (lanes c view) Upper f s (is_step c view.explained s f)
 
   abbrev pub end_from : (s g : ℕ) → End
-  end_from s g = end_at c (frame c view) Lower s g (goes_on c view.explained (frame c view) s g)
+  end_from s g = end_at c (frame c view) (lanes c view) Lower s g (goes_on c view.explained (frame c view) s g)
+
+  -- a lane is the first one, and not that of node 0, if a node before its own has none
+  pub later_first : (e other : ℕ) → lane_at c (lanes c view) e ≡ 0 → node_at c other < node_at c e → is_among (lanes c view) 0 ≡ false
+  later_first e other first lower =
+      elim (cases_Bool (is_among (lanes c view) 0)) [
+        | inl has ↦
+            let more : 0 < lane_at c (lanes c view) e = counts_one (lanes c view) 0 (node_at c e) has (omega arith) in
+            absurd (omega arith)
+        | inr hasnt ↦ hasnt
+      ]
+
+  -- so there is room on the left of a lane for an arrow to a node before that of the lane
+  turn_within : (border : Border) (e other : ℕ) → node_at c other < node_at c e →
+      turn_distance border (frame c view).half ≤ x_of (frame c view) (lane_at c (lanes c view) e)
+  turn_within border e other lower =
+      let half = (frame c view).half in
+      let lane : ℕ = lane_at c (lanes c view) e in
+      let fits = turn_room border (frame c view).half in
+      let narrow : turn_distance border half + half ≤ (frame c view).lane_distance = fits.1 in
+      elim (cases_eq (lane_at c (lanes c view) e) 0) [
+        | inl first ↦
+            let room : turn_distance border half < (frame c view).first_lane =
+            left_arrows_have_room (lanes c view) (frame c view).half border (later_first e other first lower) in
+            omega arith
+        | inr later ↦ let next = next_lane (frame c view) 0 (lane_at c (lanes c view) e) (omega arith) in omega arith
+      ]
+
+  turns_towards : (border : Border) (e other : ℕ) (marked : Bool) →
+      TurnsTowards c other (dot c view e) (end_at c (frame c view) (lanes c view) border e other marked)
+  turns_towards border e other marked = (
+    λ lower.
+        let left : nat_lt (node_at c other) (node_at c e) ≡ true = grind (arith, nat_tests, lower) in
+        let within = turn_within border e other lower in
+        rw left (omega arith),
+    λ no_lower. let right : nat_lt (node_at c other) (node_at c e) ≡ false = grind (arith, nat_tests, no_lower) in rw right refl,
+  )
 
   crosses_upper : (s f : ℕ) → IsInRange c view f → CrossesBorder c (picture_of c view) (end_to s f) TOP f s
-  crosses_upper s f inside = record { at_border = refl; row = (dot c view f, dot_there c view f inside, refl, refl); event = refl; number = refl }
+  crosses_upper s f inside = record { at_border = refl; row = (dot c view f, dot_there c view f inside, refl, refl, turns_towards Upper f s (is_step c view.explained s f)); event = refl; number = refl }
 
   crosses_lower : (s g : ℕ) → IsInRange c view s → CrossesBorder c (picture_of c view) (end_from s g) (picture_of c view).frame.height s g
-  crosses_lower s g inside = record { at_border = refl; row = (dot c view s, dot_there c view s inside, refl, refl); event = refl; number = refl }
+  crosses_lower s g inside = record { at_border = refl; row = (dot c view s, dot_there c view s inside, refl, refl, turns_towards Lower s g (goes_on c view.explained (frame c view) s g)); event = refl; number = refl }
 
   pub entering_there : (s f : ℕ) → ComesIn c view s f → Contains (entering_at f) (end_to s f)
   entering_there s f comes =
@@ -109,7 +158,7 @@ module _ (c : Content) (view : View) where
       let ahead = comes.before in
       let lt : s < first c view = omega arith in
       let before : nat_lt s (frame c view).first ≡ true = grind (arith, nat_tests, lt) in
-      subst (λ (o : Option ℕ). Contains (cons_option (entering_from c view.explained (frame c view) f o) []) (end_to s f))
+      subst (λ (o : Option ℕ). Contains (cons_option (entering_from c view.explained (frame c view) (lanes c view) f o) []) (end_to s f))
       (sym comes.sends.delivers)
       (rw before (0, omega arith, refl))
 
@@ -145,7 +194,7 @@ pub arrows_come_in : ArrowsComeIn
 arrows_come_in c view end well among =
     let made = made_of (entering c view) (entering_at c view) refl (entering_more c view) (first c view) (count c view) end among in
     let f = made.0 in
-    let is = entering_kinds c view.explained (frame c view) f (skeleton_at c.events f).send end made.3 in
+    let is = entering_kinds c view.explained (frame c view) (lanes c view) f (skeleton_at c.events f).send end made.3 in
     let s = is.0 in
     let inside : IsInRange c view f = in_range c view f made.1 made.2 in
     let exists = inside.exists in
@@ -163,7 +212,7 @@ messages_leave c view s f well leaves =
     let found = first_left c view s f well leaves in
     let g = found.0 in
     let there : Contains (leaving_at c view s) (end_from c view s g) =
-    subst (λ (o : Option ℕ). Contains (cons_option (leaving_to c view.explained (frame c view) s o) []) (end_from c view s g)) (sym found.1)
+    subst (λ (o : Option ℕ). Contains (cons_option (leaving_to c view.explained (frame c view) (lanes c view) s o) []) (end_from c view s g)) (sym found.1)
     (0, omega arith, refl) in (
       end_from c view s g,
       drawn_there c view (leaving c view) (leaving_at c view) refl (leaving_more c view) s (end_from c view s g) leaves.inside there,
@@ -174,7 +223,7 @@ pub arrows_leave : ArrowsLeave
 arrows_leave c view end well among =
     let made = made_of (leaving c view) (leaving_at c view) refl (leaving_more c view) (first c view) (count c view) end among in
     let s = made.0 in
-    let is = leaving_kinds c view.explained (frame c view) s (first_after c (frame c view) s) end made.3 in
+    let is = leaving_kinds c view.explained (frame c view) (lanes c view) s (first_after c (frame c view) s) end made.3 in
     let inside : IsInRange c view s = in_range c view s made.1 made.2 in (
       s,
       is.0,

@@ -1,11 +1,10 @@
 -- The laws of pictures.
-use Rattle.std.proofs.Common.{◌≡◌, ◌≢◌, ◌∙◌, ◌⊎◌, ◌↔◌, ℕ, zero, suc, ◌+◌, ◌-◌, ◌<◌, ◌≤◌, ◌==◌, Bool, true, false, inl, inr, List, [], ◌∷◌, ◌++◌, Contains, Option, Some, None, arith, ap, count_by, filter, get_or, length, map, refl, subst, sym}
+use Rattle.std.proofs.Common.{◌≡◌, ◌≢◌, ◌∙◌, ◌⊎◌, ◌↔◌, ℕ, ◌+◌, ◌-◌, ◌<◌, ◌≤◌, ◌==◌, Bool, true, false, inl, inr, List, [], ◌∷◌, ◌++◌, Contains, Option, Some, None, arith, ap, count_by, filter, length, map, refl, subst, sym}
 use Rattle.std.specs.List.{cons_option, filter_map}
 use Rattle.std.specs.Prelude.{nat_lt}
 use Rattle.std.proofs.lemmas.Bool.{cases_Bool, cases_lt}
 use Rattle.std.proofs.lemmas.Bool.Decides.{nat_tests}
 use Rattle.std.proofs.lemmas.List.{map_push}
-use Rattle.std.proofs.lemmas.List.Elements.{Contains-append_left, Contains-append_right}
 use Rattle.std.proofs.lemmas.List.Sums.{length-filter}
 use Rattle.hlc_stamp.specs.Ids.{is_among}
 use Rattle.hlc_stamp.specs.declared.id.EventId.{EventId}
@@ -13,8 +12,9 @@ use Rattle.hlc_causality.specs.Causality.{IsSendOf, skeleton_at}
 use Rattle.hlc_causality.specs.ClockChain.{IsClockChainOf}
 use Rattle.hlc_causality.proofs.FollowedClockChains.{clock_chain_is_followed}
 use Rattle.hlc_figures.specs.Chosen.{IsMissing, chosen}
-use Rattle.hlc_diagram.specs.Layout.{frame_of, end_of, first_of}
-use Rattle.hlc_figures.specs.Content.{Content, clock_events_of, node_at}
+use Rattle.hlc_diagram.specs.Layout.{end_of, first_of, frame_of, lanes_in}
+use Rattle.hlc_figures.specs.Content.{Content, clock_events_of}
+use Rattle.hlc_figures.specs.Lanes.{lane_at}
 use Rattle.hlc_figures.specs.Figure.{arrow_between, arrow_into, arrow_of, dot_of}
 use Rattle.hlc_figures.specs.Columns.{places_from}
 use Rattle.hlc_svg.specs.Frame.{row_of, row_y, towards, x_of, y_of}
@@ -30,11 +30,15 @@ use Rattle.hlc_svg.specs.declared.shapes.Point.{Point}
 use Rattle.hlc_diagram.specs.declared.view.View.{View}
 use Rattle.hlc_svg.proofs.Clear.{next_lane, path_never_rises}
 use Rattle.hlc_figures.proofs.Links.{clock_size}
+use Rattle.hlc_figures.proofs.NodeLanes.{among_at, among_from}
 use Rattle.hlc_figures.proofs.Placed.{AddsItems, in_one, made_of, made_there, one_passes, parts_more}
 
 module _ (c : Content) (view : View) where
   abbrev pub frame : Frame
   frame = frame_of c view
+
+  abbrev pub lanes : List ℕ
+  lanes = lanes_in c view
 
   abbrev pub first : ℕ
   first = first_of c view
@@ -43,14 +47,14 @@ module _ (c : Content) (view : View) where
   count = end_of c view - first_of c view
 
   abbrev pub figure : ℕ → Figure
-  figure e = figure_of c view.explained frame e
+  figure e = figure_of c view.explained frame lanes e
 
   -- dots and arrows are made place by place
   abbrev dots : List ℕ → List Dot
   dots places = map (λ f. f.dot) (map figure places)
 
   abbrev pub dot : ℕ → Dot
-  dot e = dot_of c view.explained frame e
+  dot e = dot_of c view.explained frame lanes e
 
   dots_more : (places : List ℕ) (p : ℕ) → dots (places ++ p ∷ []) ≡ dots places ++ dot p ∷ []
   dots_more places p =
@@ -60,7 +64,7 @@ module _ (c : Content) (view : View) where
   arrows places = filter_map (λ f. f.arrow) (map figure places)
 
   abbrev pub arrow : ℕ → List Arrow
-  arrow e = cons_option (arrow_of c view.explained frame e) []
+  arrow e = cons_option (arrow_of c view.explained frame lanes e) []
 
   pub arrows_more : (places : List ℕ) (p : ℕ) → arrows (places ++ p ∷ []) ≡ arrows places ++ arrow p
   arrows_more places p = parts_more (λ (f : Figure). f.arrow) figure places p
@@ -106,7 +110,7 @@ each_event_has_one_dot c view e r = one_dot c view e r
 pub dots_are_of_events : DotsAreOfEvents
 dots_are_of_events c view d among =
     let is = dot_is c view d among in
-    subst (λ (d : Dot). IsDotOfEvent c view d) is.2 (record { in_range = is.1; lane = refl; number = refl; look = refl })
+    subst (λ (d : Dot). IsDotOfEvent c view d) is.2 (record { in_range = is.1; lane = refl; number = refl; shown = refl; look = refl })
 
 -- a figure is that of an event of the range
 figure_is : (c : Content) (view : View) (f : Figure) → Contains (picture_of c view).figures f → (e : ℕ) × (figure c view e ≡ f)
@@ -154,31 +158,31 @@ no_two_dots_in_one_place c view a b in_a in_b same =
 -- ---- arrows
 
 -- what is drawn into an event of this kind, if it is an arrow
-pub arrow_kinds : (c : Content) (explained : Option EventId) (frame : Frame) (e : ℕ) (send : Option ℕ) (a : Arrow) →
-    Contains (cons_option (arrow_into c explained frame e send) []) a →
-    (s : ℕ) × (send ≡ Some s) × (frame.first ≤ s) × (arrow_between c explained frame s e ≡ a)
-arrow_kinds c explained frame e None a h = let lt = h.1 in absurd (omega arith)
-arrow_kinds c explained frame e (Some s) a h =
+pub arrow_kinds : (c : Content) (explained : Option EventId) (frame : Frame) (lanes : List ℕ) (e : ℕ) (send : Option ℕ) (a : Arrow) →
+    Contains (cons_option (arrow_into c explained frame lanes e send) []) a →
+    (s : ℕ) × (send ≡ Some s) × (frame.first ≤ s) × (arrow_between c explained frame lanes s e ≡ a)
+arrow_kinds c explained frame lanes e None a h = let lt = h.1 in absurd (omega arith)
+arrow_kinds c explained frame lanes e (Some s) a h =
     elim (cases_Bool (nat_lt s frame.first)) [
       | inl before ↦ let none : Contains [] a = (rw before at h) in let lt = none.1 in absurd (omega arith)
       | inr after ↦
-          let one : Contains (arrow_between c explained frame s e ∷ []) a = (rw after at h) in
+          let one : Contains (arrow_between c explained frame lanes s e ∷ []) a = (rw after at h) in
           let le : frame.first ≤ s = grind (arith, nat_tests, after) in
-          (s, refl, le, in_one (arrow_between c explained frame s e) a one)
+          (s, refl, le, in_one (arrow_between c explained frame lanes s e) a one)
     ]
 
 -- an arrow into an event is drawn to it alone
-other_arrows : (c : Content) (explained : Option EventId) (frame : Frame) (e p : ℕ) (send : Option ℕ) → p ≢ e →
-    filter (λ (a : Arrow). a.delivered.0 == e) (cons_option (arrow_into c explained frame p send) []) ≡ []
-other_arrows c explained frame e p None ne = refl
-other_arrows c explained frame e p (Some s) ne =
+other_arrows : (c : Content) (explained : Option EventId) (frame : Frame) (lanes : List ℕ) (e p : ℕ) (send : Option ℕ) → p ≢ e →
+    filter (λ (a : Arrow). a.delivered.0 == e) (cons_option (arrow_into c explained frame lanes p send) []) ≡ []
+other_arrows c explained frame lanes e p None ne = refl
+other_arrows c explained frame lanes e p (Some s) ne =
     let no : (p == e) ≡ false = grind (arith, nat_tests, ne) in
     elim (cases_Bool (nat_lt s frame.first)) [ inl before ↦ rw before refl | inr after ↦ rw (after, no) refl ]
 
-own_arrow : (c : Content) (explained : Option EventId) (frame : Frame) (s f : ℕ) → frame.first ≤ s →
-    filter (λ (a : Arrow). a.delivered.0 == f) (cons_option (arrow_into c explained frame f (Some s)) [])
-    ≡ arrow_between c explained frame s f ∷ []
-own_arrow c explained frame s f from =
+own_arrow : (c : Content) (explained : Option EventId) (frame : Frame) (lanes : List ℕ) (s f : ℕ) → frame.first ≤ s →
+    filter (λ (a : Arrow). a.delivered.0 == f) (cons_option (arrow_into c explained frame lanes f (Some s)) [])
+    ≡ arrow_between c explained frame lanes s f ∷ []
+own_arrow c explained frame lanes s f from =
     let after : nat_lt s frame.first ≡ false = grind (arith, nat_tests, from) in
     let yes : (f == f) ≡ true = grind (arith, nat_tests) in
     rw (after, yes) refl
@@ -186,12 +190,13 @@ own_arrow c explained frame s f from =
 pub each_delivery_has_one_arrow : EachDeliveryHasOneArrow
 each_delivery_has_one_arrow c view s f sends in_s in_f =
     let frame = frame_of c view in
+    let lanes = lanes_in c view in
     let test : Arrow → Bool = λ a. a.delivered.0 == f in
-    let own : filter test (arrow c view f) ≡ arrow_between c view.explained frame s f ∷ [] =
-    ap (λ (o : Option ℕ). filter test (cons_option (arrow_into c view.explained frame f o) [])) sends.delivers
-    ∙ own_arrow c view.explained frame s f (placed_from c view s in_s) in
+    let own : filter test (arrow c view f) ≡ arrow_between c view.explained frame lanes s f ∷ [] =
+    ap (λ (o : Option ℕ). filter test (cons_option (arrow_into c view.explained frame lanes f o) [])) sends.delivers
+    ∙ own_arrow c view.explained frame lanes s f (placed_from c view s in_s) in
     let others : (p : ℕ) → p ≢ f → filter test (arrow c view p) ≡ [] =
-    λ p ne. other_arrows c view.explained frame f p (skeleton_at c.events p).send ne in
+    λ p ne. other_arrows c view.explained frame lanes f p (skeleton_at c.events p).send ne in
     let from = placed_from c view f in_f in
     let to = placed_to c view f in_f in
     let one = one_passes (arrows c view) (arrow c view) refl (arrows_more c view) test f others (first c view) (count c view) from to in
@@ -200,24 +205,25 @@ each_delivery_has_one_arrow c view s f sends in_s in_f =
 -- the ends of an arrow lie at the sides of its dots
 module _ (c : Content) (view : View) where
   pub side_of :
-      (node other : ℕ) →
-      (towards (frame c view) node other (frame c view).half ≡ x_of (frame c view) node + (frame c view).half) ⊎
-      (towards (frame c view) node other (frame c view).half + (frame c view).half ≡ x_of (frame c view) node)
-  side_of node other =
-      elim (cases_lt other node) [
+      (lane other : ℕ) →
+      (towards (frame c view) lane other (frame c view).half ≡ x_of (frame c view) lane + (frame c view).half) ⊎
+      (towards (frame c view) lane other (frame c view).half + (frame c view).half ≡ x_of (frame c view) lane)
+  side_of lane other =
+      elim (cases_lt other lane) [
         | inl lt ↦
-            let test : nat_lt other node ≡ true = grind (arith, nat_tests, lt) in
-            let far = next_lane (frame c view) 0 node (omega arith) in
+            let test : nat_lt other lane ≡ true = grind (arith, nat_tests, lt) in
+            let far = next_lane (frame c view) 0 lane (omega arith) in
             rw test (inr (omega arith))
-        | inr ge ↦ let test : nat_lt other node ≡ false = grind (arith, nat_tests, ge) in rw test (inl refl)
+        | inr ge ↦ let test : nat_lt other lane ≡ false = grind (arith, nat_tests, ge) in rw test (inl refl)
       ]
 
 pub arrows_are_of_deliveries : ArrowsAreOfDeliveries
 arrows_are_of_deliveries c view a first_sends among =
     let frame = frame_of c view in
+    let lanes = lanes_in c view in
     let made = made_of (arrows c view) (arrow c view) refl (arrows_more c view) (first c view) (count c view) a among in
     let f = made.0 in
-    let is = arrow_kinds c view.explained frame f (skeleton_at c.events f).send a made.3 in
+    let is = arrow_kinds c view.explained frame lanes f (skeleton_at c.events f).send a made.3 in
     let s = is.0 in
     let r_f : IsInRange c view f = in_range c view f made.1 made.2 in
     let exists = r_f.exists in
@@ -226,8 +232,8 @@ arrows_are_of_deliveries c view a first_sends among =
     let to : f < first c view + count c view = made.2 in
     let r_s : IsInRange c view s = in_range c view s from (omega arith) in
     let sends : IsSendOf c.events s f = record { earlier = earlier; exists = exists; delivers = is.1 } in
-    let leaves = side_of c view (node_at c s) (node_at c f) in
-    let arrives = side_of c view (node_at c f) (node_at c s) in
+    let leaves = side_of c view (lane_at c lanes s) (lane_at c lanes f) in
+    let arrives = side_of c view (lane_at c lanes f) (lane_at c lanes s) in
     let rows : row_of frame s < row_of frame f = omega arith in
     let level : row_y (row_of frame f) + 0 ≡ row_y (row_of frame f) = omega arith in
     let lowers : y_of frame s < y_of frame f = lower frame s f from earlier in
@@ -236,24 +242,10 @@ arrows_are_of_deliveries c view a first_sends among =
       from = (dot c view s, dot_there c view s r_s, record { event = refl; level = refl; side = leaves });
       to = (dot c view f, dot_there c view f r_f, record { event = refl; level = level; side = arrives });
       down = omega arith;
-      falls = path_never_rises (arrow_between c view.explained frame s f).route (omega arith) (omega arith);
+      falls = path_never_rises (arrow_between c view.explained frame lanes s f).route (omega arith) (omega arith);
     })
 
 -- ---- marks
-
-among_from : (list : List ℕ) (e : ℕ) → is_among list e ≡ true → Contains list e
-among_from [] e h = absurd (cc)
-among_from (d ∷ list) e h =
-    elim (cases_Bool (e == d)) [
-      | inl is ↦ let same : d ≡ e = grind (arith, nat_tests, is) in Contains-append_left (d ∷ []) list e (0, omega arith, same)
-      | inr isnt ↦ Contains-append_right (d ∷ []) list e (among_from list e (rw isnt at h))
-    ]
-
-pub among_at : (list : List ℕ) (e k : ℕ) → k < length list → get_or list k e ≡ e → is_among list e ≡ true
-among_at [] e k lt h = absurd (omega arith)
-among_at (d ∷ list) e zero lt h = let is : (e == d) ≡ true = (let same : d ≡ e = h in grind (arith, nat_tests, same)) in rw is refl
-among_at (d ∷ list) e (suc k) lt h =
-    elim (cases_Bool (e == d)) [ inl is ↦ rw is refl | inr isnt ↦ rw isnt (among_at list e k (omega arith) h) ]
 
 pub chosen_is_chain :
     (c : Content) (view : View) (e : EventId) (chain : List ℕ) → view.explained ≡ Some e → e.0 < length c.events →

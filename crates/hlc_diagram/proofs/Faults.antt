@@ -1,5 +1,4 @@
 -- What a fault isn't.
-use Rattle.std.proofs.Common.{◌≡◌}
 use Rattle.std.specs.Prelude.{Err, IsErrOf}
 use Rattle.hlc_diagram.specs.Fault.{IsOfOutput}
 use Rattle.hlc_diagram.specs.declared.draw_fault.DrawFault.{DrawFault}

@@ -5,6 +5,7 @@ pub mod Crosses
 pub mod Crossings
 pub mod Drawn
 pub mod Faults
+pub mod Laned
 pub mod Steps
 pub mod Texts
 pub mod Windows

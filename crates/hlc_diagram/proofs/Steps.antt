@@ -16,6 +16,7 @@ use Rattle.hlc_causality.proofs.PredecessorsFound.{Finds}
 use Rattle.hlc_causality.proofs.ReceiveEvents.{rules_keep_previous, rules_keep_sends}
 use Rattle.hlc_figures.specs.Content.{Content, clock_events_of, node_at}
 use Rattle.hlc_figures.specs.Figure.{arrow_between, arrow_into, forcing_at, is_step, link_of, link_top, marked_at}
+use Rattle.hlc_figures.specs.Lanes.{lane_at}
 use Rattle.hlc_svg.specs.Frame.{x_of, y_of}
 use Rattle.hlc_diagram.specs.Laws.{ComesIn, HasThickLine, IsInRange, StepsAreThick}
 use Rattle.hlc_figures.specs.FigureText.{Figure}
@@ -24,8 +25,9 @@ use Rattle.hlc_svg.specs.declared.dot.Dot.{Dot}
 use Rattle.hlc_svg.specs.declared.shapes.Link.{Link}
 use Rattle.hlc_diagram.specs.declared.view.View.{View}
 use Rattle.hlc_diagram.proofs.Crossings.{end_to, entering, entering_at, entering_more, entering_there}
-use Rattle.hlc_diagram.proofs.Drawn.{among_at, arrow, arrows, arrows_more, chosen_is_chain, dot, dot_is, drawn_there, figure, first, frame}
+use Rattle.hlc_diagram.proofs.Drawn.{arrow, arrows, arrows_more, chosen_is_chain, dot, dot_is, drawn_there, figure, first, frame, lanes}
 use Rattle.hlc_figures.proofs.Links.{clock_size}
+use Rattle.hlc_figures.proofs.NodeLanes.{among_at}
 use Rattle.hlc_figures.proofs.Placed.{parts_more}
 
 forced_by : (t : ClockEvents) (pairs : List Pair) (d f : ℕ) (found : Option ℕ) → Finds (λ c. IsClockForcing t pairs c f) found
@@ -39,7 +41,7 @@ module _ (c : Content) (view : View) (d f : ℕ) (inside : IsInRange c view f) (
   links places = filter_map (λ f. f.link) (map (figure c view) places)
 
   abbrev link_at : ℕ → List Link
-  link_at e = cons_option (link_of c view.explained (frame c view) e) []
+  link_at e = cons_option (link_of c view.explained (frame c view) (lanes c view) e) []
 
   links_more : (places : List ℕ) (p : ℕ) → links (places ++ p ∷ []) ≡ links places ++ link_at p
   links_more places p = parts_more (λ (f : Figure). f.link) (figure c view) places p
@@ -48,9 +50,9 @@ module _ (c : Content) (view : View) (d f : ℕ) (inside : IsInRange c view f) (
   linked : node_at c d ≡ node_at c f → HasThickLine (picture_of c view) (dot c view f)
   linked same =
       let line : Link =
-      record { x = x_of (frame c view) (node_at c f); from = link_top (frame c view) d; to = y_of (frame c view) f } in
+      record { x = x_of (frame c view) (lane_at c (lanes c view) f); from = link_top (frame c view) d; to = y_of (frame c view) f } in
       let test : (node_at c d == node_at c f) ≡ true = grind (arith, nat_tests, same) in
-      let is : link_of c view.explained (frame c view) f ≡ Some line = rw (marked, forced, test) refl in
+      let is : link_of c view.explained (frame c view) (lanes c view) f ≡ Some line = rw (marked, forced, test) refl in
       let there : Contains (link_at f) line =
       subst (λ (o : Option Link). Contains (cons_option o []) line) (sym is) (0, omega arith, refl) in
       inl (line, drawn_there c view links link_at refl links_more f line inside there, refl, refl)
@@ -78,9 +80,9 @@ module _ (c : Content) (view : View) (d f : ℕ) (inside : IsInRange c view f) (
               stepped,
             ))
         | inr after ↦
-            let line = arrow_between c view.explained (frame c view) d f in
+            let line = arrow_between c view.explained (frame c view) (lanes c view) d f in
             let there : Contains (arrow c view f) line =
-            subst (λ (o : Option ℕ). Contains (cons_option (arrow_into c view.explained (frame c view) f o) []) line) (sym sends.delivers)
+            subst (λ (o : Option ℕ). Contains (cons_option (arrow_into c view.explained (frame c view) (lanes c view) f o) []) line) (sym sends.delivers)
             (rw after (0, omega arith, refl)) in
             inr (inl (
               line,

@@ -1,5 +1,5 @@
 -- Texts that are added one after the other.
-use Rattle.std.proofs.Common.{◌≡◌, ◌∙◌, ℕ, suc, ◌+◌, ◌-◌, ◌<◌, ◌≤◌, List, [], ◌∷◌, ◌++◌, Option, Some, None, ap, append_assoc, append-nil, arith, codes, flat_map, get_or, length, map, refl, sym, subst, take}
+use Rattle.std.proofs.Common.{◌≡◌, ◌∙◌, ℕ, ◌+◌, ◌-◌, ◌<◌, ◌≤◌, List, [], ◌∷◌, ◌++◌, Option, Some, None, ap, append_assoc, append-nil, arith, codes, flat_map, get_or, length, map, refl, sym, subst, take}
 use Rattle.hlc_stamp.specs.declared.id.EventId.{EventId}
 use Rattle.hlc_causality.specs.Places.{places_below}
 use Rattle.std.specs.Io.KnownBytes.{Appends, Keeps, append_known}
@@ -75,15 +75,6 @@ pub places_all :
     GrowsBy a b old new (flat_map piece (places_from first all))
 places_all piece first count all a b old new last h = subst (λ (n : ℕ). GrowsBy a b old new (flat_map piece (places_from first n))) last h
 
--- what lane after lane adds
-pub lanes_added :
-    (piece : ℕ → List ℕ) (n : ℕ) (a b c : Option (List ℕ)) (old mid grown new : List ℕ) →
-    GrowsBy a b old mid (flat_map piece (places_below n)) → grown ≡ mid ++ piece n →
-    Keeps (append_known b grown) (append_known c new) → GrowsBy a c old new (flat_map piece (places_below (n + 1)))
-lanes_added piece n a b c old mid grown new h e k =
-    subst (λ (m : ℕ). GrowsBy a c old new (flat_map piece (places_below m))) (let next : suc n ≡ n + 1 = omega arith in next)
-    (adds_more piece a b c old mid grown new (places_below n) n h e k)
-
 -- what waits is handed over
 pub handed_over : (a b c : Option (List ℕ)) (waiting text : List ℕ) → GrowsBy a b [] waiting text → Appends b c waiting → Appends a c text
 handed_over None b c waiting text h t = tt
@@ -137,23 +128,23 @@ module _ {X Y : Type 0} (text : Y → List ℕ) (f : X → Option Y) where
 
 -- the parts of a picture, one after the other
 pub parts_of_picture :
-    (c : Content) (frame : Frame) (explained : Option EventId) (undelivered : List Undelivered) →
+    (c : Content) (frame : Frame) (lanes : List ℕ) (explained : Option EventId) (undelivered : List Undelivered) →
     head_text frame (caption_of c explained frame) c.legend (map (heading_of c frame) (places_below c.columns))
-    ++ (flat_map (λ e. back_text (figure_of c explained frame e)) (places_in frame)
-    ++ (flat_map (λ node. named_lane_text (named_lane_of c frame node)) (places_below frame.nodes)
-    ++ ((flat_map (λ e. lines_text (figure_of c explained frame e)) (places_in frame)
-    ++ flat_map (λ m. if_drawn cross_text (cross_of c frame m)) undelivered)
-    ++ (flat_map (λ e. front_text (figure_of c explained frame e)) (places_in frame) ++ codes "</svg>\n"))))
-    ≡ picture_text (picture_in c frame explained undelivered)
+    ++ (flat_map (λ e. back_text (figure_of c explained frame lanes e)) (places_in frame)
+    ++ (flat_map (λ node. named_lane_text (named_lane_of c frame lanes node)) lanes
+    ++ ((flat_map (λ e. lines_text (figure_of c explained frame lanes e)) (places_in frame)
+    ++ flat_map (λ m. if_drawn cross_text (cross_of c frame lanes m)) undelivered)
+    ++ (flat_map (λ e. front_text (figure_of c explained frame lanes e)) (places_in frame) ++ codes "</svg>\n"))))
+    ≡ picture_text (picture_in c frame lanes explained undelivered)
 unfolding picture_text
-parts_of_picture c frame explained undelivered =
-    let back = flat_map-map back_text (figure_of c explained frame) (places_in frame) in
-    let lanes = flat_map-map named_lane_text (named_lane_of c frame) (places_below frame.nodes) in
-    let lines = flat_map-map lines_text (figure_of c explained frame) (places_in frame) in
-    let crosses = flat_map-filter_map cross_text (cross_of c frame) undelivered in
-    let front = flat_map-map front_text (figure_of c explained frame) (places_in frame) in
-    let figures = map (figure_of c explained frame) (places_in frame) in
+parts_of_picture c frame lanes explained undelivered =
+    let back = flat_map-map back_text (figure_of c explained frame lanes) (places_in frame) in
+    let named = flat_map-map named_lane_text (named_lane_of c frame lanes) lanes in
+    let lines = flat_map-map lines_text (figure_of c explained frame lanes) (places_in frame) in
+    let crosses = flat_map-filter_map cross_text (cross_of c frame lanes) undelivered in
+    let front = flat_map-map front_text (figure_of c explained frame lanes) (places_in frame) in
+    let figures = map (figure_of c explained frame lanes) (places_in frame) in
     let then =
-    append_assoc (flat_map lines_text figures) (flat_map cross_text (filter_map (cross_of c frame) undelivered))
+    append_assoc (flat_map lines_text figures) (flat_map cross_text (filter_map (cross_of c frame lanes) undelivered))
     (flat_map front_text figures ++ codes "</svg>\n") in
-    rw (back, lanes, lines, crosses, front, then) refl
+    rw (back, named, lines, crosses, front, then) refl

@@ -1,12 +1,13 @@
 -- The laws of pictures of chains, in a reader's words.
-use Rattle.std.specs.Prelude.{◌≡◌, ℕ, ◌+◌, ◌<◌, Contains, List, [], ◌∷◌, Option, Some, None, length, map}
+use Rattle.std.specs.Prelude.{◌≡◌, ℕ, ◌+◌, ◌<◌, false, Contains, List, [], ◌∷◌, Option, Some, None, length, map}
 use Rattle.std.specs.List.{filter_map}
 use Rattle.hlc_stamp.specs.declared.id.EventId.{EventId}
 use Rattle.hlc_causality.specs.ClockChain.{IsClockChainOf}
 use Rattle.hlc_diagram.specs.ChainPicture.{ChainPicture, chain_picture_of}
 use Rattle.hlc_figures.specs.ChainFigure.{Item}
 use Rattle.hlc_figures.specs.ChainFigure as drawn
-use Rattle.hlc_figures.specs.Content.{Content, clock_events_of}
+use Rattle.hlc_figures.specs.Content.{Content, NodesExist, clock_events_of, node_at}
+use Rattle.hlc_figures.specs.FigureText.{NamedLane}
 use Rattle.hlc_svg.specs.Clear.{KeepsClear}
 use Rattle.hlc_svg.specs.Path.{path_of}
 use Rattle.hlc_svg.specs.declared.arrow.Arrow.{Arrow}
@@ -53,3 +54,13 @@ GapsCountWhatLiesBetween = (c : Content) (e : EventId) → EachGapCounts (chain_
 abbrev pub ChainArrowsKeepClear : Type 0
 ChainArrowsKeepClear = (c : Content) (e : EventId) (arrow : Arrow) (dot : Dot) → Contains (chain_arrows (chain_picture_of c e)) arrow →
     Contains (chain_dots (chain_picture_of c e)) dot → KeepsClear dot (path_of arrow.route)
+
+-- unless each node has a lane, the node of a lane has a dot on it
+abbrev pub ChainLanesAreOfDots : Type 0
+ChainLanesAreOfDots = (c : Content) (e : EventId) (lane : NamedLane) → c.every_lane ≡ false → Contains (chain_picture_of c e).lanes lane →
+    (dot : Dot) × Contains (chain_dots (chain_picture_of c e)) dot × (node_at c dot.event.0 ≡ lane.lane.node.0) × (dot.at.x ≡ lane.lane.x)
+
+-- and each dot stands on the lane of its node
+abbrev pub ChainDotsStandOnLanes : Type 0
+ChainDotsStandOnLanes = (c : Content) (e : EventId) (dot : Dot) → NodesExist c → Contains (chain_dots (chain_picture_of c e)) dot →
+    (lane : NamedLane) × Contains (chain_picture_of c e).lanes lane × (lane.lane.node.0 ≡ node_at c dot.event.0) × (dot.at.x ≡ lane.lane.x)

@@ -5,12 +5,12 @@ use Rattle.hlc_stamp.specs.declared.id.EventId.{EventId}
 use Rattle.hlc_causality.specs.Places.{places_below}
 use Rattle.hlc_figures.specs.ChainRows.{rows_of}
 use Rattle.hlc_figures.specs.Chosen.{chosen}
-use Rattle.hlc_diagram.specs.Layout.{frame_of}
+use Rattle.hlc_diagram.specs.Layout.{frame_on}
 use Rattle.hlc_figures.specs.Content.{Content, clock_events_of}
 use Rattle.hlc_figures.specs.Head.{caption_of, head_text, heading_of}
+use Rattle.hlc_figures.specs.Lanes.{lanes_of}
 use Rattle.hlc_figures.specs.FigureText.{NamedLane, named_lane_of, named_lane_text}
 use Rattle.hlc_figures.specs.Row.{Cell}
-use Rattle.hlc_figures.specs.declared.caption.Caption.{Caption}
 use Rattle.hlc_figures.specs.declared.chain_rows.ChainRow.{ChainRow}
 use Rattle.hlc_svg.specs.declared.frame.Frame.{Frame}
 use Rattle.hlc_svg.specs.declared.frame.TheConstants.{FIRST_ROW, ROW}
@@ -26,33 +26,33 @@ first_or e (d ∷ chain) = record { 0 = d }
 abbrev pub chain_view : EventId → List ℕ → View
 chain_view e chain = record { first = first_or e chain; last = e; explained = Some e }
 
--- things stand where they do in the picture of that view, only in the rows of the chain
+-- things stand where they do in the picture of that view, only on the lanes of the chain's nodes and in its rows
 abbrev pub frame_around : Content → EventId → List ℕ → Frame
-frame_around c e chain = record (frame_of c (chain_view e chain)) { height = FIRST_ROW + ROW * length (rows_of chain) }
+frame_around c e chain = record (frame_on c (chain_view e chain) (lanes_of c chain)) { height = FIRST_ROW + ROW * length (rows_of chain) }
 
--- a picture of a chain: where things stand, what is said of it, the headings of the columns, a lane for each node, and the rows of the chain
+-- a picture of a chain: where things stand, what is said of it, the headings of the columns, the lanes, and the rows of the chain
 pub record ChainPicture : Type 0 where
   pub frame : Frame
-  pub caption : Caption
+  pub caption : List ℕ
   pub legend : List ℕ
   pub headings : List Cell
   pub lanes : List NamedLane
   pub items : List Item
 
-abbrev pub chain_picture_in : Content → Frame → EventId → List ChainRow → ChainPicture
-chain_picture_in c frame e rows = record {
+abbrev pub chain_picture_in : Content → Frame → (lanes : List ℕ) → EventId → List ChainRow → ChainPicture
+chain_picture_in c frame lanes e rows = record {
   frame = frame;
   caption = caption_of c (Some e) frame;
   legend = c.legend;
   headings = map (heading_of c frame) (places_below c.columns);
-  lanes = map (named_lane_of c frame) (places_below frame.nodes);
-  items = map (item_of c frame) rows;
+  lanes = map (named_lane_of c frame lanes) lanes;
+  items = map (item_of c frame lanes) rows;
 }
 
 -- the picture of the chain of an event
 abbrev pub chain_picture_of : Content → EventId → ChainPicture
 chain_picture_of c e =
-    let chain = chosen (clock_events_of c) c.stamps (Some e) in chain_picture_in c (frame_around c e chain) e (rows_of chain)
+    let chain = chosen (clock_events_of c) c.stamps (Some e) in chain_picture_in c (frame_around c e chain) (lanes_of c chain) e (rows_of chain)
 
 -- its text
 unfoldable pub chain_picture_text : ChainPicture → List ℕ

@@ -1,6 +1,8 @@
 -- The arrows of messages that didn't arrive, each of which ends in a cross.
 use Rattle.std.specs.Prelude.{Bool, ℕ, ◌-◌, ◌++◌, ◌&&◌, List, Option, Some, None, codes, decimal, if◌then◌else◌, nat_le, nat_lt}
-use Rattle.hlc_figures.specs.Content.{Content, node_at}
+use Rattle.hlc_stamp.specs.Ids.{is_among}
+use Rattle.hlc_figures.specs.Content.{Content}
+use Rattle.hlc_figures.specs.Lanes.{lane_at, lane_of}
 use Rattle.hlc_svg.specs.Frame.{row_of}
 use Rattle.hlc_svg.specs.Path.{path_of, points_text}
 use Rattle.hlc_diagram.specs.declared.cross.Cross.{Cross}
@@ -9,20 +11,20 @@ use Rattle.hlc_svg.specs.declared.frame.Frame.{Frame}
 use Rattle.hlc_diagram.specs.declared.undelivered.Undelivered.{Undelivered}
 
 -- whether a message is shown: there is its lane, and drawn are its send and the event before the next one
-abbrev pub is_shown : Frame → Undelivered → Bool
-is_shown frame m = ((nat_le frame.first m.send.0 && nat_lt m.send.0 m.before.0) && nat_le m.before.0 frame.end) && nat_lt m.to.0 frame.nodes
+abbrev pub is_shown : Frame → (lanes : List ℕ) → Undelivered → Bool
+is_shown frame lanes m = ((nat_le frame.first m.send.0 && nat_lt m.send.0 m.before.0) && nat_le m.before.0 frame.end) && is_among lanes m.to.0
 
 -- its arrow runs from the dot of its send to beside the lane of its node, and ends midway between the rows of that event and the next one
-abbrev pub cross_to : Content → Frame → Undelivered → Cross
-cross_to c frame m = record {
+abbrev pub cross_to : Content → Frame → (lanes : List ℕ) → Undelivered → Cross
+cross_to c frame lanes m = record {
   message = m;
   number = c.number m.send.0;
   route = record {
     from_row = row_of frame m.send.0;
     to_row = row_of frame (m.before.0 - 1);
     below = MIDWAY;
-    from = record { 0 = node_at c m.send.0 };
-    to = m.to;
+    from = record { 0 = lane_at c lanes m.send.0 };
+    to = record { 0 = lane_of lanes m.to.0 };
     frame = frame;
   };
 }
@@ -36,8 +38,8 @@ abbrev pub named_cross : Content → Cross → NamedCross
 named_cross c x = record { cross = x; name = c.name x.message.to.0 }
 
 -- what is drawn of a message
-abbrev pub cross_of : Content → Frame → Undelivered → Option NamedCross
-cross_of c frame m = if is_shown frame m then Some (named_cross c (cross_to c frame m)) else None
+abbrev pub cross_of : Content → Frame → (lanes : List ℕ) → Undelivered → Option NamedCross
+cross_of c frame lanes m = if is_shown frame lanes m then Some (named_cross c (cross_to c frame lanes m)) else None
 
 -- the text of an arrow: its line, and a title that says which message it is of
 abbrev pub cross_begins : Cross → List ℕ

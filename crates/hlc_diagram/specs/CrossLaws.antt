@@ -3,7 +3,8 @@ use Rattle.std.specs.Prelude.{◌≡◌, ◌⊎◌, Bool, ℕ, ◌+◌, ◌-◌,
 use Rattle.hlc_stamp.specs.declared.id.NodeId.{NodeId}
 use Rattle.hlc_figures.specs.Content.{Content}
 use Rattle.hlc_diagram.specs.Cross.{NamedCross}
-use Rattle.hlc_svg.specs.Frame.{x_of}
+use Rattle.hlc_diagram.specs.Layout.{lanes_in}
+use Rattle.hlc_figures.specs.FigureText.{NamedLane}
 use Rattle.hlc_diagram.specs.Laws.{IsAtDot, IsInRange, dots_in}
 use Rattle.hlc_svg.specs.Clear.{KeepsClear, NeverRises}
 use Rattle.hlc_svg.specs.Path.{arrow_end, arrow_start, path_of}
@@ -14,12 +15,12 @@ use Rattle.hlc_svg.specs.declared.shapes.Point.{Point}
 use Rattle.hlc_diagram.specs.declared.undelivered.Undelivered.{Undelivered}
 use Rattle.hlc_diagram.specs.declared.view.View.{View}
 
--- a message is shown if its send and the last event before it failed to arrive are in the range, and its target exists
+-- a message is shown if its send and the last event before it failed to arrive are in the range, and its target has a lane
 pub record IsShown (c : Content) (view : View) (m : Undelivered) : Type 0 where
   pub sent : IsInRange c view m.send.0
   pub later : m.send.0 < m.before.0
   pub last : IsInRange c view (m.before.0 - 1)
-  pub node : m.to.0 < c.nodes
+  pub lane : Contains (lanes_in c view) m.to.0
 
 -- whether two messages are the same
 abbrev pub is_same : Undelivered → Undelivered → Bool
@@ -32,7 +33,8 @@ EachMessageHasItsCross = (c : Content) (view : View) (undelivered : List Undeliv
 
 -- a point lies on a side of a node's lane, where a dot would end
 abbrev pub IsBesideLane : Picture → NodeId → Point → Type 0
-IsBesideLane p node point = (point.x ≡ x_of p.frame node.0 + p.frame.half) ⊎ (point.x + p.frame.half ≡ x_of p.frame node.0)
+IsBesideLane p node point =
+    (l : NamedLane) × Contains p.lanes l × (l.lane.node ≡ node) × ((point.x ≡ l.lane.x + p.frame.half) ⊎ (point.x + p.frame.half ≡ l.lane.x))
 
 -- and midway between the row of the event at e and the next row
 abbrev pub IsBelowRow : Picture → (e : ℕ) → Point → Type 0

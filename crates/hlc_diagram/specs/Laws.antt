@@ -1,11 +1,15 @@
 -- The laws of pictures, in a reader's words.
-use Rattle.std.specs.Prelude.{◌≡◌, ◌↔◌, ◌⊎◌, ℕ, ◌+◌, ◌*◌, ◌==◌, ◌<◌, ◌≤◌, Contains, IsTrue, List, Some, None, count_by, length, map}
+use Rattle.std.specs.Prelude.{◌≡◌, ◌↔◌, ◌⊎◌, ℕ, ◌+◌, ◌*◌, ◌==◌, ◌<◌, ◌≤◌, false, true, Contains, IsTrue, List, Some, None, count_by, length, map}
 use Rattle.std.specs.List.{filter_map}
 use Rattle.hlc_stamp.specs.declared.id.EventId.{EventId}
 use Rattle.hlc_causality.specs.Causality.{IsSendOf}
+use Rattle.hlc_causality.specs.Places.{places_below}
 use Rattle.hlc_causality.specs.ClockChain.{IsClockChainOf, IsClockForcing}
 use Rattle.hlc_figures.specs.Chosen.{IsMissing}
-use Rattle.hlc_figures.specs.Content.{Content, SendsComeFirst, clock_events_of, node_at}
+use Rattle.hlc_diagram.specs.Layout.{lanes_in}
+use Rattle.hlc_figures.specs.Content.{Content, NodesExist, SendsComeFirst, clock_events_of, node_at}
+use Rattle.hlc_figures.specs.Figure.{turn_distance}
+use Rattle.hlc_figures.specs.Lanes.{lane_at}
 use Rattle.hlc_svg.specs.Frame.{x_of}
 use Rattle.hlc_svg.specs.Path.{arrow_end, arrow_start, course_of, path_of}
 use Rattle.hlc_figures.specs.FigureText.{Figure, NamedLane}
@@ -41,11 +45,12 @@ pub record IsInRange (c : Content) (view : View) (e : ℕ) : Type 0 where
 abbrev pub EachEventHasOneDot : Type 0
 EachEventHasOneDot = (c : Content) (view : View) (e : ℕ) → IsInRange c view e → count_by (λ dot. dot.event.0 == e) (dots_in (picture_of c view)) ≡ 1
 
--- a dot is that of such an event, stands on the lane of its node, and has its number and its look
+-- a dot is that of such an event, stands on the lane of its node, and has its number, the one that is shown of it, and its look
 pub record IsDotOfEvent (c : Content) (view : View) (dot : Dot) : Type 0 where
   pub in_range : IsInRange c view dot.event.0
-  pub lane : dot.at.x ≡ x_of (picture_of c view).frame (node_at c dot.event.0)
+  pub lane : dot.at.x ≡ x_of (picture_of c view).frame (lane_at c (lanes_in c view) dot.event.0)
   pub number : dot.number ≡ c.number dot.event.0
+  pub shown : dot.shown ≡ c.shown dot.event.0
   pub look : dot.look ≡ c.look dot.event.0
 
 abbrev pub DotsAreOfEvents : Type 0
@@ -109,17 +114,39 @@ BorderArrowsKeepClear = (c : Content) (view : View) (end : End) (dot : Dot) →
     Contains (entering_in (picture_of c view)) end ⊎ Contains (leaving_in (picture_of c view)) end →
     Contains (dots_in (picture_of c view)) dot → KeepsClear dot (course_of end)
 
+-- unless each node has a lane, the node of a lane has a dot on it
+abbrev pub LanesAreOfDots : Type 0
+LanesAreOfDots = (c : Content) (view : View) (lane : NamedLane) → c.every_lane ≡ false → Contains (picture_of c view).lanes lane →
+    (dot : Dot) × Contains (dots_in (picture_of c view)) dot × (node_at c dot.event.0 ≡ lane.lane.node.0) × (dot.at.x ≡ lane.lane.x)
+
+-- and each dot stands on the lane of its node, which has its name
+abbrev pub DotsStandOnLanes : Type 0
+DotsStandOnLanes = (c : Content) (view : View) (dot : Dot) → NodesExist c → Contains (dots_in (picture_of c view)) dot →
+    (lane : NamedLane) × Contains (picture_of c view).lanes lane × (lane.lane.node.0 ≡ node_at c dot.event.0) × (dot.at.x ≡ lane.lane.x)
+    × (lane.name ≡ c.name (node_at c dot.event.0))
+
+-- if each node has a lane, the lanes are those of the nodes, in order
+abbrev pub EachNodeHasItsLane : Type 0
+EachNodeHasItsLane = (c : Content) (view : View) → c.every_lane ≡ true →
+    map (λ lane. lane.lane.node.0) (picture_of c view).lanes ≡ places_below c.nodes
+
 -- the lanes of two nodes are apart by more than a dot
 abbrev pub LanesAreApart : Type 0
 LanesAreApart = (c : Content) (view : View) (a b : NamedLane) → Contains (picture_of c view).lanes a → Contains (picture_of c view).lanes b →
     a.lane.node.0 < b.lane.node.0 → a.lane.x + 2 * (picture_of c view).frame.half < b.lane.x
 
--- an arrow runs between a border and the row of the dot of e, and has the number of the event at its other end
+-- an arrow turns on the left of a dot if the node of its other end comes before the dot's own, whether that has a lane or not, and else on the right
+abbrev pub TurnsTowards : Content → (other : ℕ) → Dot → End → Type 0
+TurnsTowards c other dot end =
+    (node_at c other < node_at c dot.event.0 → end.turn_x + turn_distance end.border dot.half ≡ dot.at.x)
+    × (node_at c dot.event.0 ≤ node_at c other → end.turn_x ≡ dot.at.x + turn_distance end.border dot.half)
+
+-- an arrow runs between a border and the row of the dot of e, on the side of the event at its other end, and has that one's number
 pub record CrossesBorder (c : Content) (p : Picture) (end : End) (border e other : ℕ) : Type 0 where
   pub at_border : end.border_y ≡ border
-  pub row : (dot : Dot) × Contains (dots_in p) dot × (dot.event.0 ≡ e) × (dot.at.y ≡ end.y)
+  pub row : (dot : Dot) × Contains (dots_in p) dot × (dot.event.0 ≡ e) × (dot.at.y ≡ end.y) × TurnsTowards c other dot end
   pub event : end.event.0 ≡ other
-  pub number : end.number ≡ c.number other
+  pub number : end.number ≡ c.shown other
 
 -- a delivery is of the range and its send comes before it; or a send is of the range and a delivery of it comes after that
 pub record ComesIn (c : Content) (view : View) (s f : ℕ) : Type 0 where

@@ -4,43 +4,42 @@ use Rattle.std.specs.List.{filter_map, flat_map}
 use Rattle.std.specs.Io.KnownBytes.{Appends, Keeps, append_known}
 use Rattle.hlc_stamp.specs.declared.id.EventId.{EventId}
 use Rattle.hlc_causality.specs.Places.{places_below}
-use Rattle.hlc_diagram.specs.Layout.{frame_of}
+use Rattle.hlc_diagram.specs.Layout.{frame_of, lanes_in}
 use Rattle.hlc_figures.specs.Columns.{places_in}
 use Rattle.hlc_figures.specs.Content.{Content}
 use Rattle.hlc_diagram.specs.Cross.{NamedCross, cross_of, cross_text}
 use Rattle.hlc_figures.specs.Head.{caption_of, head_text, heading_of}
 use Rattle.hlc_figures.specs.Row.{Cell}
-use Rattle.hlc_figures.specs.declared.caption.Caption.{Caption}
 use Rattle.hlc_svg.specs.declared.frame.Frame.{Frame}
 use Rattle.hlc_diagram.specs.declared.undelivered.Undelivered.{Undelivered}
 use Rattle.hlc_diagram.specs.declared.view.View.{View}
 use Rattle.hlc_figures.specs.FigureText.{Figure, NamedLane, figure_of, named_lane_of, back_text, lines_text, front_text, named_lane_text}
 
--- a picture: where things stand, what is said of it, the headings of the columns, a lane for each node, what is drawn of each event, and the
--- arrows of messages that didn't arrive
+-- a picture: where things stand, what is said of it, the headings of the columns, the lanes, what is drawn of each event, and the arrows of
+-- messages that didn't arrive
 pub record Picture : Type 0 where
   pub frame : Frame
-  pub caption : Caption
+  pub caption : List ℕ
   pub legend : List ℕ
   pub headings : List Cell
   pub lanes : List NamedLane
   pub figures : List Figure
   pub crosses : List NamedCross
 
-abbrev pub picture_in : Content → Frame → Option EventId → List Undelivered → Picture
-picture_in c frame explained undelivered = record {
+abbrev pub picture_in : Content → Frame → (lanes : List ℕ) → Option EventId → List Undelivered → Picture
+picture_in c frame lanes explained undelivered = record {
   frame = frame;
   caption = caption_of c explained frame;
   legend = c.legend;
   headings = map (heading_of c frame) (places_below c.columns);
-  lanes = map (named_lane_of c frame) (places_below frame.nodes);
-  figures = map (figure_of c explained frame) (places_in frame);
-  crosses = filter_map (cross_of c frame) undelivered;
+  lanes = map (named_lane_of c frame lanes) lanes;
+  figures = map (figure_of c explained frame lanes) (places_in frame);
+  crosses = filter_map (cross_of c frame lanes) undelivered;
 }
 
 -- the picture of what a diagram shows, with messages that didn't arrive, and without any
 abbrev pub picture_with : Content → View → List Undelivered → Picture
-picture_with c view undelivered = picture_in c (frame_of c view) view.explained undelivered
+picture_with c view undelivered = picture_in c (frame_of c view) (lanes_in c view) view.explained undelivered
 
 abbrev pub picture_of : Content → View → Picture
 picture_of c view = picture_with c view []

@@ -13,6 +13,7 @@ ghost use Rattle.hlc_figures.specs.Columns.{AreColumnsOf};
 ghost use Rattle.hlc_figures.specs.Content.{clock_events_of};
 ghost use Rattle.hlc_diagram.specs.Fault.{IsOfOutput};
 ghost use Rattle.hlc_figures.specs.Head.{caption_of};
+ghost use Rattle.hlc_figures.specs.Lanes.{lanes_of};
 ghost use Rattle.hlc_diagram.specs.Picture.{GrowsBy};
 
 use crate::draw_fault::DrawFault;
@@ -20,11 +21,12 @@ use crate::drawing::{draw_lanes, finish, lacks, spill};
 use crate::layout::{Layout, lay_out};
 use crate::marks::marked_chain;
 use crate::view::View;
-use hlc_figures::caption::{Caption, caption_for};
+use hlc_figures::caption::caption_for;
 use hlc_figures::chain_rows::{ChainRow, chain_rows};
 use hlc_figures::chain_text::put_item;
 use hlc_figures::head::put_head;
 use hlc_figures::kept::count;
+use hlc_figures::lanes::lanes_at;
 use hlc_figures::layer::Layer;
 use hlc_figures::scene::Scene;
 use hlc_figures::subject::Subject;
@@ -44,7 +46,7 @@ fn draw_items<S: Subject, W: Write>(
     requires columns { AreColumnsOf (S.content subject.now) scene.now.frame scene.now.columns.now }
     requires exist { All (RowExists (S.content subject.now)) rows.now }
     ensures text { OnOk result (GrowsBy (W.contents writer.old) (W.contents writer.new) (string_bytes text.old) (string_bytes text.new)
-        (flat_map (λ row. item_text layer (item_of (S.content subject.now) scene.now.frame row)) rows.now)) }
+        (flat_map (λ row. item_text layer (item_of (S.content subject.now) scene.now.frame scene.now.lanes.now row)) rows.now)) }
     ensures fault { IfErr result IsOfOutput }
 {
     for row in rows {
@@ -61,21 +63,21 @@ fn draw_rows<S: Subject, W: Write>(
     scene: &Scene<'_>,
     event: EventId,
     rows: &[ChainRow],
-    caption: Caption,
+    caption: &str,
     writer: &mut W,
 ) -> Result<(), DrawFault>
     requires columns { AreColumnsOf (S.content subject.now) scene.now.frame scene.now.columns.now }
-    requires nodes { scene.now.frame.nodes ≡ (S.content subject.now).nodes }
+    requires lanes { All (λ node. node < (S.content subject.now).nodes) scene.now.lanes.now }
     requires exist { All (RowExists (S.content subject.now)) rows.now }
-    requires caption { caption ≡ caption_of (S.content subject.now) (Some event) scene.now.frame }
+    requires caption { caption.now ≡ caption_of (S.content subject.now) (Some event) scene.now.frame }
     ensures text { OnOk result (Appends (W.contents writer.old) (W.contents writer.new)
-        (chain_picture_text (chain_picture_in (S.content subject.now) scene.now.frame event rows.now))) }
+        (chain_picture_text (chain_picture_in (S.content subject.now) scene.now.frame scene.now.lanes.now event rows.now))) }
     ensures fault { IfErr result IsOfOutput }
 {
     let mut text = String::new(alloc);
     put_head(&mut text, subject, scene, caption)?;
     draw_items(&mut text, Layer::Back, subject, scene, rows, writer)?;
-    draw_lanes(&mut text, subject, scene.frame, writer)?;
+    draw_lanes(&mut text, subject, scene, writer)?;
     draw_items(&mut text, Layer::Lines, subject, scene, rows, writer)?;
     draw_items(&mut text, Layer::Front, subject, scene, rows, writer)?;
     finish(&mut text, writer)
@@ -119,11 +121,14 @@ fn lay_out_chain<S: Subject>(
     list: &[EventId],
     rows: u32,
 ) -> Result<Layout, AllocError>
-    requires { rows ≡ length (rows_of (places_of list.now)) }
+    requires exist { All (λ e. e < length (S.content subject.now).events) (places_of list.now) }
+    requires rows { rows ≡ length (rows_of (places_of list.now)) }
     ensures frame { IfOk result (λ layout. layout.frame ≡ frame_around (S.content subject.now) event (places_of list.now)) }
+    ensures lanes { IfOk result (λ layout. layout.lanes ≡ lanes_of (S.content subject.now) (places_of list.now)) }
     ensures columns { IfOk result (λ layout. AreColumnsOf (S.content subject.now) layout.frame layout.columns.items) }
 {
-    let mut layout = lay_out(alloc, subject, chain_view(event, list))?;
+    let lanes = lanes_at(alloc, subject, list)?;
+    let mut layout = lay_out(alloc, subject, chain_view(event, list), lanes)?;
     layout.frame.height = FIRST_ROW + ROW * u64::from(rows);
     Ok(layout)
 }
@@ -156,13 +161,14 @@ pub fn draw_chain<S: Subject, W: Write>(
     let layout = lay_out_chain(alloc, subject, event, &list, count_rows(subject, &rows))?;
     let scene = Scene {
         frame: layout.frame,
+        lanes: &layout.lanes,
         explained: Some(event),
         marks: &[],
         next: None,
         columns: &layout.columns,
     };
-    let caption = caption_for(subject, layout.frame, Some(event), &list);
-    draw_rows(alloc, subject, &scene, event, &rows, caption, writer)?;
+    let caption = caption_for(alloc, subject, layout.frame, Some(event), &list)?;
+    draw_rows(alloc, subject, &scene, event, &rows, &caption, writer)?;
     if lacks(subject, Some(event)) {
         return Err(DrawFault::NoEvent);
     }

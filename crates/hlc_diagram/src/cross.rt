@@ -11,7 +11,7 @@ ghost use Rattle.hlc_figures.specs.Scene.{IsScene};
 use crate::draw_fault::DrawFault;
 use crate::drawing::spill;
 use crate::undelivered::Undelivered;
-use hlc_figures::kept::node;
+use hlc_figures::lanes::{Lanes, lane};
 use hlc_figures::scene::Scene;
 use hlc_figures::subject::Subject;
 use hlc_stamp::EventId;
@@ -33,30 +33,30 @@ pub(crate) struct Cross {
     pub(crate) route: Route,
 }
 
-// Whether a message is shown: there is its lane, and drawn are its send and the event before the next one.
-fn is_shown(frame: Frame, message: Undelivered) -> bool
-    ensures { result ≡ is_shown frame message }
+// Whether a message is shown: its node has a lane, and drawn are its send and the event before the next one.
+fn is_shown(frame: Frame, lanes: &Lanes, message: Undelivered) -> bool
+    ensures { result ≡ is_shown frame lanes.now message }
 {
     let (send, before) = (message.send.0, message.before.0);
-    frame.first <= send && send < before && before <= frame.end && message.to.0 < frame.nodes
+    frame.first <= send && send < before && before <= frame.end && lanes.has(message.to)
 }
 
 // Its arrow.
-fn cross_to<S: Subject>(subject: &S, frame: Frame, message: Undelivered) -> Cross
+fn cross_to<S: Subject>(subject: &S, scene: &Scene<'_>, message: Undelivered) -> Cross
     requires { message.send.0 < length (S.content subject.now).events }
-    ensures { result ≡ cross_to (S.content subject.now) frame message }
+    ensures { result ≡ cross_to (S.content subject.now) scene.now.frame scene.now.lanes.now message }
 {
     let last = EventId(message.before.0.saturating_sub(1));
     Cross {
         message,
         number: subject.number(message.send),
         route: Route {
-            from_row: row(frame, message.send),
-            to_row: row(frame, last),
+            from_row: row(scene.frame, message.send),
+            to_row: row(scene.frame, last),
             below: MIDWAY,
-            from: node(subject, message.send),
-            to: message.to,
-            frame,
+            from: lane(subject, scene.lanes, message.send),
+            to: scene.lanes.lane(message.to),
+            frame: scene.frame,
         },
     }
 }
@@ -101,12 +101,12 @@ fn put_message<S: Subject>(
 ) -> Result<(), AllocError>
     requires { IsScene (S.content subject.now) scene.now }
     ensures { OnOk result (string_bytes text.new ≡ string_bytes text.old
-        ++ if_drawn cross_text (cross_of (S.content subject.now) scene.now.frame message)) }
+        ++ if_drawn cross_text (cross_of (S.content subject.now) scene.now.frame scene.now.lanes.now message)) }
 {
-    if !is_shown(scene.frame, message) {
+    if !is_shown(scene.frame, scene.lanes, message) {
         return Ok(());
     }
-    put_cross(text, subject, cross_to(subject, scene.frame, message))
+    put_cross(text, subject, cross_to(subject, scene, message))
 }
 
 pub(crate) fn draw_crosses<S: Subject, W: Write>(
@@ -118,7 +118,7 @@ pub(crate) fn draw_crosses<S: Subject, W: Write>(
 ) -> Result<(), DrawFault>
     requires { IsScene (S.content subject.now) scene.now }
     ensures text { OnOk result (GrowsBy (W.contents writer.old) (W.contents writer.new) (string_bytes text.old) (string_bytes text.new)
-        (flat_map (λ m. if_drawn cross_text (cross_of (S.content subject.now) scene.now.frame m)) undelivered.now)) }
+        (flat_map (λ m. if_drawn cross_text (cross_of (S.content subject.now) scene.now.frame scene.now.lanes.now m)) undelivered.now)) }
     ensures fault { IfErr result IsOfOutput }
 {
     for message in undelivered {

@@ -1,10 +1,9 @@
 // The whole picture.
 
-ghost use Rattle.std.specs.Prelude.{◌≡◌, ◌++◌, ◌<◌, ◌↔◌, IfErr, IsErrOf, IsTrue, OnOk, codes, string_bytes};
+ghost use Rattle.std.specs.Prelude.{◌≡◌, ◌++◌, ◌<◌, ◌↔◌, All, IfErr, IsErrOf, IsTrue, OnOk, codes, string_bytes};
 ghost use Rattle.std.specs.Io.KnownBytes.{Appends};
 ghost use Rattle.std.specs.List.{flat_map};
 ghost use Rattle.hlc_causality.specs.Feasible.{IsLeastFeasible};
-ghost use Rattle.hlc_causality.specs.Places.{places_below};
 ghost use Rattle.hlc_figures.specs.Chosen.{IsMissing};
 ghost use Rattle.hlc_figures.specs.Columns.{places_in};
 ghost use Rattle.hlc_figures.specs.Content.{clock_events_of};
@@ -16,19 +15,19 @@ ghost use Rattle.hlc_figures.specs.Scene.{IsScene};
 
 use crate::cross::draw_crosses;
 use crate::draw_fault::DrawFault;
-use crate::layout::lay_out;
+use crate::layout::{lanes_in, lay_out};
 use crate::marks::{first_past, marked_chain, marks};
 use crate::undelivered::Undelivered;
 use crate::view::View;
 use hlc_execution::Execution;
-use hlc_figures::caption::{Caption, caption_for};
+use hlc_figures::caption::caption_for;
 use hlc_figures::figure_text::{put_lane, put_layer};
 use hlc_figures::head::put_head;
 use hlc_figures::layer::Layer;
 use hlc_figures::scene::Scene;
 use hlc_figures::subject::Subject;
-use hlc_stamp::{EventId, NodeId};
-use hlc_svg::frame::Frame;
+use hlc_stamp::EventId;
+use hlc_svg::frame::LaneId;
 use std::alloc::{AllocError, Global};
 use std::io::Write;
 
@@ -69,16 +68,17 @@ pub(crate) fn spill<W: Write>(text: &mut String, writer: &mut W) -> Result<(), D
 pub(crate) fn draw_lanes<S: Subject, W: Write>(
     text: &mut String,
     subject: &S,
-    frame: Frame,
+    scene: &Scene<'_>,
     writer: &mut W,
 ) -> Result<(), DrawFault>
-    requires { frame.nodes ≡ (S.content subject.now).nodes }
+    requires { All (λ node. node < (S.content subject.now).nodes) scene.now.lanes.now }
     ensures text { OnOk result (GrowsBy (W.contents writer.old) (W.contents writer.new) (string_bytes text.old) (string_bytes text.new)
-        (flat_map (λ node. named_lane_text (named_lane_of (S.content subject.now) frame node)) (places_below frame.nodes))) }
+        (flat_map (λ node. named_lane_text (named_lane_of (S.content subject.now) scene.now.frame scene.now.lanes.now node)) scene.now.lanes.now)) }
     ensures fault { IfErr result IsOfOutput }
 {
-    for node in 0..frame.nodes {
-        put_lane(text, subject, frame, NodeId(node))?;
+    for place in 0..scene.lanes.len() {
+        let node = scene.lanes.node(LaneId(place));
+        put_lane(text, subject, scene.frame, scene.lanes, node)?;
         spill(text, writer)?;
     }
     Ok(())
@@ -93,7 +93,8 @@ fn draw_layer<S: Subject, W: Write>(
 ) -> Result<(), DrawFault>
     requires { IsScene (S.content subject.now) scene.now }
     ensures text { OnOk result (GrowsBy (W.contents writer.old) (W.contents writer.new) (string_bytes text.old) (string_bytes text.new)
-        (flat_map (λ e. layer_text layer (figure_of (S.content subject.now) scene.now.explained scene.now.frame e)) (places_in scene.now.frame))) }
+        (flat_map (λ e. layer_text layer (figure_of (S.content subject.now) scene.now.explained scene.now.frame scene.now.lanes.now e))
+        (places_in scene.now.frame))) }
     ensures fault { IfErr result IsOfOutput }
 {
     for place in scene.frame.first..scene.frame.end {
@@ -122,19 +123,19 @@ fn draw_scene<S: Subject, W: Write>(
     subject: &S,
     scene: &Scene<'_>,
     undelivered: &[Undelivered],
-    caption: Caption,
+    caption: &str,
     writer: &mut W,
 ) -> Result<(), DrawFault>
     requires scene { IsScene (S.content subject.now) scene.now }
-    requires caption { caption ≡ caption_of (S.content subject.now) scene.now.explained scene.now.frame }
+    requires caption { caption.now ≡ caption_of (S.content subject.now) scene.now.explained scene.now.frame }
     ensures text { OnOk result (Appends (W.contents writer.old) (W.contents writer.new)
-        (picture_text (picture_in (S.content subject.now) scene.now.frame scene.now.explained undelivered.now))) }
+        (picture_text (picture_in (S.content subject.now) scene.now.frame scene.now.lanes.now scene.now.explained undelivered.now))) }
     ensures fault { IfErr result IsOfOutput }
 {
     let mut text = String::new(alloc);
     put_head(&mut text, subject, scene, caption)?;
     draw_layer(&mut text, Layer::Back, subject, scene, writer)?;
-    draw_lanes(&mut text, subject, scene.frame, writer)?;
+    draw_lanes(&mut text, subject, scene, writer)?;
     draw_layer(&mut text, Layer::Lines, subject, scene, writer)?;
     draw_crosses(&mut text, subject, scene, undelivered, writer)?;
     draw_layer(&mut text, Layer::Front, subject, scene, writer)?;
@@ -208,18 +209,20 @@ pub fn draw_with<S: Subject, W: Write>(
     ensures no_event { IsErrOf result DrawFault.NoEvent → IsMissing (S.content subject.now).events view.explained }
     ensures event { OnOk result (¬ IsMissing (S.content subject.now).events view.explained) }
 {
-    let layout = lay_out(alloc, subject, view)?;
+    let lanes = lanes_in(alloc, subject, view)?;
+    let layout = lay_out(alloc, subject, view, lanes)?;
     let list = marked_chain(alloc, subject, view.explained)?;
     let marks = marks(alloc, &list, layout.frame)?;
     let scene = Scene {
         frame: layout.frame,
+        lanes: &layout.lanes,
         explained: view.explained,
         marks: &marks,
         next: first_past(&list, layout.frame),
         columns: &layout.columns,
     };
-    let caption = caption_for(subject, layout.frame, view.explained, &list);
-    draw_scene(alloc, subject, &scene, undelivered, caption, writer)?;
+    let caption = caption_for(alloc, subject, layout.frame, view.explained, &list)?;
+    draw_scene(alloc, subject, &scene, undelivered, &caption, writer)?;
     if lacks(subject, view.explained) {
         return Err(DrawFault::NoEvent);
     }

@@ -1,8 +1,8 @@
 //! The laws of pictures. Each is the contract of a function that does nothing.
 
-ghost use Rattle.hlc_diagram.specs.ChainLaws.{ChainArrowsKeepClear, DotsAreTheChain, GapsCountWhatLiesBetween};
+ghost use Rattle.hlc_diagram.specs.ChainLaws.{ChainArrowsKeepClear, ChainDotsStandOnLanes, ChainLanesAreOfDots, DotsAreTheChain, GapsCountWhatLiesBetween};
 ghost use Rattle.hlc_diagram.specs.CrossLaws.{CrossesAreOfMessages, CrossesKeepClear, EachMessageHasItsCross, NothingElseChanges};
-ghost use Rattle.hlc_diagram.specs.Laws.{ArrowsAreOfDeliveries, ArrowsComeIn, ArrowsKeepClear, ArrowsLeave, BorderArrowsKeepClear, DotsAreOfEvents, EachDeliveryHasOneArrow, EachEventHasOneDot, LanesAreApart, MarkedAreTheChain, MessagesComeIn, MessagesLeave, NoTwoDotsInOnePlace, NoneIsMarked, StepsAreThick, TimeRunsDown, TitlesAreOfTheDots};
+ghost use Rattle.hlc_diagram.specs.Laws.{ArrowsAreOfDeliveries, ArrowsComeIn, ArrowsKeepClear, ArrowsLeave, BorderArrowsKeepClear, DotsAreOfEvents, DotsStandOnLanes, EachDeliveryHasOneArrow, EachEventHasOneDot, EachNodeHasItsLane, LanesAreApart, LanesAreOfDots, MarkedAreTheChain, MessagesComeIn, MessagesLeave, NoTwoDotsInOnePlace, NoneIsMarked, StepsAreThick, TimeRunsDown, TitlesAreOfTheDots};
 ghost use Rattle.hlc_diagram.specs.View.{ViewsAreAround};
 
 /// Each event of the range has exactly one dot, on the lane of its node and with its number, and there are no others. A later event
@@ -13,6 +13,14 @@ pub fn dots_are_the_events()
     ensures down { TimeRunsDown }
     ensures apart { NoTwoDotsInOnePlace }
     ensures titles { TitlesAreOfTheDots }
+{}
+
+/// Each dot stands on the lane of its node, if its events happen at nodes that there are. Only the nodes of dots have a lane, unless each
+/// node has one: then the lanes are those of all nodes, in order.
+pub fn lanes_are_of_dots()
+    ensures dots { DotsStandOnLanes }
+    ensures only { LanesAreOfDots }
+    ensures every { EachNodeHasItsLane }
 {}
 
 /// Each delivery of the range whose send is in the range has exactly one arrow, from the send's dot down to its own, and there
@@ -32,7 +40,7 @@ pub fn arrows_keep_clear_of_dots()
 
 /// Each delivery of the range whose send comes before it has an arrow from the upper border, with the number of the send, and
 /// each send of the range that is delivered after it has one to the lower border, with the number of such a delivery. There are
-/// no others.
+/// no others. Each runs on the side of the node of its other end, be there a lane or not.
 pub fn arrows_end_at_the_border()
     ensures come_in { MessagesComeIn }
     ensures only_these_come_in { ArrowsComeIn }
@@ -63,11 +71,14 @@ pub use hlc_figures::laws::first_lane_has_room;
 pub use hlc_svg::laws::{labels_are_harmless, shapes_have_room};
 
 /// The picture of a chain alone has a dot for each event of the chain, in order, and no others. Between two that aren't next to one
-/// another it has one row, which counts exactly the events that lie there. No arrow comes nearer to a dot than half its width and height.
+/// another it has one row, which counts exactly the events that lie there. No arrow comes nearer to a dot than half its width and height. Each dot
+/// stands on the lane of its node, and only nodes of dots have a lane, unless each has one.
 pub fn chain_pictures_have_the_chain()
     ensures dots { DotsAreTheChain }
     ensures gaps { GapsCountWhatLiesBetween }
     ensures clear { ChainArrowsKeepClear }
+    ensures lanes { ChainLanesAreOfDots }
+    ensures stand { ChainDotsStandOnLanes }
 {}
 
 /// What is drawn about an event has that event, and as many as were asked for, or all that there are; before it and after it stand as

@@ -1,4 +1,4 @@
-//! Space-time diagrams in SVG, of the events of any system: time runs down, and each node has a lane. Each event is a dot on its
+//! Space-time diagrams in SVG, of the events of any system: time runs down, and nodes have lanes. Each event is a dot on its node's
 //! lane with a row beside it, and each delivery an arrow from its send. The chain that forces one event's stamp can be
 //! marked.
 //!

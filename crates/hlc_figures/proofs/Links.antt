@@ -15,7 +15,6 @@ use Rattle.hlc_causality.specs.ClockEvents.{ClockEvents}
 use Rattle.hlc_causality.specs.FollowedClockChains.{clock_followed_back, clock_forcing_of}
 use Rattle.hlc_causality.specs.Forcing.{NamesClockForcing}
 use Rattle.hlc_causality.specs.Neighbours.{NamesSend, place_of}
-use Rattle.hlc_causality.specs.ReceiveEvents.{ClockRules, clock_events}
 use Rattle.hlc_causality.proofs.ClockForcing.{clock_forcing_is_earlier, clock_forcing_is_unique}
 use Rattle.hlc_causality.proofs.FollowedClockChains.{clock_forcing_found}
 use Rattle.hlc_causality.proofs.PredecessorsFound.{Finds}

@@ -1,10 +1,14 @@
 -- The columns of the rows beside the lanes.
-use Rattle.std.specs.Prelude.{◌≡◌, ℕ, zero, suc, ◌+◌, ◌-◌, ◌*◌, ◌^◌, ◌++◌, ◌<◌, ◌≤◌, List, [], ◌∷◌, length, max, slice_index_or}
+use Rattle.std.specs.Prelude.{◌≡◌, ℕ, zero, suc, ◌+◌, ◌-◌, ◌*◌, ◌^◌, ◌++◌, ◌<◌, ◌≤◌, false, List, [], ◌∷◌, if◌then◌else◌, length, max, slice_index_or}
+use Rattle.hlc_stamp.specs.Ids.{is_among}
 use Rattle.hlc_figures.specs.Content.{Content}
+use Rattle.hlc_figures.specs.Figure.{turn_distance}
 use Rattle.hlc_svg.specs.Numbers.{digits_of}
 use Rattle.hlc_figures.specs.declared.columns.TheConstants.{CHARACTER, GAP, LEAST_WIDTH}
 use Rattle.hlc_svg.specs.declared.frame.Frame.{Frame}
-use Rattle.hlc_svg.specs.declared.frame.TheConstants.{LANE}
+use Rattle.hlc_svg.specs.declared.frame.TheConstants.{FIRST_LANE, LANE}
+use Rattle.hlc_svg.specs.declared.shapes.Border.{Border}
+use Rattle.hlc_svg.specs.declared.shapes.Border.TheVariants.{Lower}
 use Rattle.hlc_svg.specs.Frame.{lane_x, x_of}
 use Rattle.hlc_svg.specs.Reach.{IsWithin}
 use Rattle.hlc_svg.specs.Shapes.{ring_half, ring_of}
@@ -27,9 +31,18 @@ half_width number = 4 * max (digits_of number) 2 + 3
 abbrev pub lane_distance : ℕ → ℕ
 lane_distance half = max LANE (4 * half + 4)
 
+-- where the first lane stands: if that isn't the lane of node 0, an arrow over a border may turn on its left
+abbrev pub first_lane : (lanes : List ℕ) → (half : ℕ) → ℕ
+first_lane lanes half = if is_among lanes 0 then FIRST_LANE else max FIRST_LANE (turn_distance Lower half + 4)
+
 -- whatever its number, a dot on the first lane doesn't reach over the left border, nor does a ring around it
 abbrev pub FirstLaneHasRoom : Type 0
-FirstLaneHasRoom = (distance number : ℕ) → number < 2 ^ 32 → IsWithin (lane_x distance 0) ring_half (ring_of (half_width number))
+FirstLaneHasRoom = (lanes : List ℕ) (distance number : ℕ) → number < 2 ^ 32 →
+    IsWithin (lane_x (first_lane lanes (half_width number)) distance 0) ring_half (ring_of (half_width number))
+
+-- nor does an arrow over a border that turns on its left
+abbrev pub LeftArrowsHaveRoom : Type 0
+LeftArrowsHaveRoom = (lanes : List ℕ) (half : ℕ) (border : Border) → is_among lanes 0 ≡ false → turn_distance border half < first_lane lanes half
 
 -- how many characters the widest cell of a column has, and its heading
 abbrev pub column_width : Content → List ℕ → (column : ℕ) → ℕ
@@ -45,7 +58,7 @@ abbrev pub places_in : Frame → List ℕ
 places_in frame = places_from frame.first (frame.end - frame.first)
 
 abbrev pub column_x : Content → Frame → (column : ℕ) → ℕ
-column_x c frame column = column_from c (places_in frame) (x_of frame frame.nodes) column
+column_x c frame column = column_from c (places_in frame) (x_of frame frame.lanes) column
 
 -- where each column begins, and where the last one ends
 pub record AreColumns (c : Content) (places : List ℕ) (start : ℕ) (columns : List ℕ) : Type 0 where
@@ -54,4 +67,4 @@ pub record AreColumns (c : Content) (places : List ℕ) (start : ℕ) (columns :
 
 -- where they do so beside the lanes of a frame, for the events that are drawn
 abbrev pub AreColumnsOf : Content → Frame → List ℕ → Type 0
-AreColumnsOf c frame columns = AreColumns c (places_in frame) (x_of frame frame.nodes) columns
+AreColumnsOf c frame columns = AreColumns c (places_in frame) (x_of frame frame.lanes) columns

@@ -6,17 +6,22 @@ use Rattle.hlc_causality.specs.ClockEvents.{ClockEvents}
 use Rattle.hlc_causality.specs.ReceiveEvents.{ClockRules, clock_events}
 use Rattle.hlc_svg.specs.declared.look.Look.{Look}
 
--- the rules of clocks; the nodes, and the events with the least stamps of such clocks; and what is said of these: the name of each node,
--- the number and the look of each event, and whether they stand in the order of these numbers; and a row of cells for each, with the heading of
+-- the rules of clocks; the nodes, whether each has a lane even if no event of it is drawn, and the events with the least stamps of such clocks; and
+-- what is said of these: the name of each node,
+-- of each event its number, the one that is shown of it, how a text names it, and its look, and whether they stand in the order of their numbers;
+-- and a row of cells for each, with the heading of
 -- each column: of each cell the text, how many characters of that are seen, and what the title of a dot tells of it
 pub record Content : Type 0 where
   pub rules : ClockRules
   pub nodes : ℕ
+  pub every_lane : Bool
   pub events : Skeleton
   pub stamps : List Pair
   pub legend : List ℕ
   pub name : ℕ → List ℕ
   pub number : ℕ → ℕ
+  pub shown : ℕ → ℕ
+  pub event : ℕ → List ℕ
   pub in_order : Bool
   pub look : ℕ → Look
   pub columns : ℕ
@@ -32,6 +37,10 @@ clock_events_of c = clock_events c.rules c.events
 -- the node at which an event happens
 abbrev pub node_at : Content → ℕ → ℕ
 node_at c e = (skeleton_at c.events e).node
+
+-- the events happen at its nodes
+abbrev pub NodesExist : Content → Type 0
+NodesExist c = (e : ℕ) → e < length c.events → node_at c e < c.nodes
 
 -- each delivery is of an earlier event
 abbrev pub SendsComeFirst : Content → Type 0

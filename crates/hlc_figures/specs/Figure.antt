@@ -1,5 +1,5 @@
 -- What is drawn of an event.
-use Rattle.std.specs.Prelude.{Bool, ℕ, ◌+◌, ◌-◌, ◌*◌, ◌/◌, ◌==◌, ◌&&◌, Option, Some, None, find, if◌then◌else◌, nat_le, nat_lt}
+use Rattle.std.specs.Prelude.{Bool, ℕ, ◌+◌, ◌-◌, ◌*◌, ◌/◌, ◌==◌, ◌&&◌, List, Option, Some, None, find, if◌then◌else◌, nat_le, nat_lt}
 use Rattle.std.specs.Option.{option_and_then}
 use Rattle.hlc_stamp.specs.declared.id.EventId.{EventId}
 use Rattle.hlc_causality.specs.Causality.{skeleton_at}
@@ -8,7 +8,8 @@ use Rattle.hlc_causality.specs.FollowedClockChains.{clock_forcing_of}
 use Rattle.hlc_causality.specs.Neighbours.{deliveries_of}
 use Rattle.hlc_figures.specs.Chosen.{is_marked, next_marked}
 use Rattle.hlc_figures.specs.Content.{Content, clock_events_of, node_at}
-use Rattle.hlc_svg.specs.Frame.{point_of, row_of, towards, x_of, y_of}
+use Rattle.hlc_figures.specs.Lanes.{lane_at}
+use Rattle.hlc_svg.specs.Frame.{aside, point_of, row_of, x_of, y_of}
 use Rattle.hlc_svg.specs.declared.frame.Frame.{Frame}
 use Rattle.hlc_svg.specs.declared.frame.TheConstants.{ROW, TOP}
 use Rattle.hlc_svg.specs.declared.arrow.Arrow.{Arrow}
@@ -39,50 +40,50 @@ abbrev pub link_top : Frame → ℕ → ℕ
 link_top frame d = if nat_lt d frame.first then TOP else y_of frame d
 
 -- a step of the chain along a lane
-abbrev pub link_from : Content → Frame → (e d : ℕ) → Option Link
-link_from c frame e d =
-    if node_at c d == node_at c e then Some (record { x = x_of frame (node_at c e); from = link_top frame d; to = y_of frame e }) else None
+abbrev pub link_from : Content → Frame → (lanes : List ℕ) → (e d : ℕ) → Option Link
+link_from c frame lanes e d =
+    if node_at c d == node_at c e then Some (record { x = x_of frame (lane_at c lanes e); from = link_top frame d; to = y_of frame e }) else None
 
 -- a marked event has a link from its forcing event, if that is at the same node
-abbrev pub link_of : Content → Option EventId → Frame → ℕ → Option Link
-link_of c explained frame e = if marked_at c explained e then option_and_then (link_from c frame e) (forcing_at c e) else None
+abbrev pub link_of : Content → Option EventId → Frame → (lanes : List ℕ) → ℕ → Option Link
+link_of c explained frame lanes e = if marked_at c explained e then option_and_then (link_from c frame lanes e) (forcing_at c e) else None
 
 -- and one to the lower border, if it forces the event with which the chain goes on after the range, and that is at the same node
-abbrev pub stub_to : Content → Frame → (e f : ℕ) → Option Link
-stub_to c frame e f =
+abbrev pub stub_to : Content → Frame → (lanes : List ℕ) → (e f : ℕ) → Option Link
+stub_to c frame lanes e f =
     if is_event (forcing_at c f) e && (node_at c f == node_at c e) then
-    Some (record { x = x_of frame (node_at c e); from = y_of frame e; to = frame.height }) else None
+    Some (record { x = x_of frame (lane_at c lanes e); from = y_of frame e; to = frame.height }) else None
 
-abbrev pub stub_of : Content → Option EventId → Frame → ℕ → Option Link
-stub_of c explained frame e = option_and_then (stub_to c frame e) (next_of c explained frame)
+abbrev pub stub_of : Content → Option EventId → Frame → (lanes : List ℕ) → ℕ → Option Link
+stub_of c explained frame lanes e = option_and_then (stub_to c frame lanes e) (next_of c explained frame)
 
 -- whether the chain goes from one event to another
 abbrev pub is_step : Content → Option EventId → (d e : ℕ) → Bool
 is_step c explained d e = marked_at c explained e && is_event (forcing_at c e) d
 
 -- an arrow runs from the dot of a send to that of a delivery; it is marked if the chain goes along it
-abbrev pub arrow_between : Content → Option EventId → Frame → (sent delivered : ℕ) → Arrow
-arrow_between c explained frame sent delivered = record {
+abbrev pub arrow_between : Content → Option EventId → Frame → (lanes : List ℕ) → (sent delivered : ℕ) → Arrow
+arrow_between c explained frame lanes sent delivered = record {
   sent = record { 0 = sent };
   delivered = record { 0 = delivered };
   route = record {
     from_row = row_of frame sent;
     to_row = row_of frame delivered;
     below = 0;
-    from = record { 0 = node_at c sent };
-    to = record { 0 = node_at c delivered };
+    from = record { 0 = lane_at c lanes sent };
+    to = record { 0 = lane_at c lanes delivered };
     frame = frame;
   };
   is_marked = is_step c explained sent delivered;
 }
 
 -- a delivery has an arrow from its send, if that is drawn
-abbrev pub arrow_into : Content → Option EventId → Frame → ℕ → (send : Option ℕ) → Option Arrow
-arrow_into c explained frame e None = None
-arrow_into c explained frame e (Some sent) = if nat_lt sent frame.first then None else Some (arrow_between c explained frame sent e)
+abbrev pub arrow_into : Content → Option EventId → Frame → (lanes : List ℕ) → ℕ → (send : Option ℕ) → Option Arrow
+arrow_into c explained frame lanes e None = None
+arrow_into c explained frame lanes e (Some sent) = if nat_lt sent frame.first then None else Some (arrow_between c explained frame lanes sent e)
 
-abbrev pub arrow_of : Content → Option EventId → Frame → ℕ → Option Arrow
-arrow_of c explained frame e = arrow_into c explained frame e (skeleton_at c.events e).send
+abbrev pub arrow_of : Content → Option EventId → Frame → (lanes : List ℕ) → ℕ → Option Arrow
+arrow_of c explained frame lanes e = arrow_into c explained frame lanes e (skeleton_at c.events e).send
 
 -- where a border is
 abbrev pub border_of : Frame → Border → ℕ
@@ -98,29 +99,33 @@ abbrev pub number_distance : Border → ℕ → ℕ
 number_distance Upper half = 7 * half / 4 + 9
 number_distance Lower half = 7 * half / 4 + 4
 
--- an arrow over a border at the dot of e, on the side of the lane of its other end
-abbrev pub end_at : Content → Frame → Border → (e other : ℕ) → Bool → End
-end_at c frame border e other marked = record {
+-- the side of e on which an arrow over a border runs: that of the node of its other end, which needs no lane
+abbrev pub is_left : Content → (e other : ℕ) → Bool
+is_left c e other = nat_lt (node_at c other) (node_at c e)
+
+-- an arrow over a border at the dot of e
+abbrev pub end_at : Content → Frame → (lanes : List ℕ) → Border → (e other : ℕ) → Bool → End
+end_at c frame lanes border e other marked = record {
   border = border;
-  x = towards frame (node_at c e) (node_at c other) frame.half;
-  number_x = towards frame (node_at c e) (node_at c other) (number_distance border frame.half);
-  turn_x = towards frame (node_at c e) (node_at c other) (turn_distance border frame.half);
+  x = aside frame (lane_at c lanes e) (is_left c e other) frame.half;
+  number_x = aside frame (lane_at c lanes e) (is_left c e other) (number_distance border frame.half);
+  turn_x = aside frame (lane_at c lanes e) (is_left c e other) (turn_distance border frame.half);
   y = y_of frame e;
   border_y = border_of frame border;
   event = record { 0 = other };
-  number = c.number other;
+  number = c.shown other;
   is_marked = marked;
 }
 
 -- a delivery whose send comes before the range has an arrow over the upper border, with the number of the send; it is marked if the chain
 -- goes along it
-abbrev pub entering_from : Content → Option EventId → Frame → ℕ → (send : Option ℕ) → Option End
-entering_from c explained frame e None = None
-entering_from c explained frame e (Some sent) =
-    if nat_lt sent frame.first then Some (end_at c frame Upper e sent (is_step c explained sent e)) else None
+abbrev pub entering_from : Content → Option EventId → Frame → (lanes : List ℕ) → ℕ → (send : Option ℕ) → Option End
+entering_from c explained frame lanes e None = None
+entering_from c explained frame lanes e (Some sent) =
+    if nat_lt sent frame.first then Some (end_at c frame lanes Upper e sent (is_step c explained sent e)) else None
 
-abbrev pub entering_of : Content → Option EventId → Frame → ℕ → Option End
-entering_of c explained frame e = entering_from c explained frame e (skeleton_at c.events e).send
+abbrev pub entering_of : Content → Option EventId → Frame → (lanes : List ℕ) → ℕ → Option End
+entering_of c explained frame lanes e = entering_from c explained frame lanes e (skeleton_at c.events e).send
 
 -- whether the chain goes on from an event of the range to one after it
 abbrev pub goes_on : Content → Option EventId → Frame → (e f : ℕ) → Bool
@@ -132,19 +137,20 @@ first_after c frame e = find (λ f. nat_le frame.end f) (deliveries_of c.events 
 
 -- a send that is delivered after the range has an arrow over the lower border, with the number of the first such delivery; it is marked if
 -- the chain goes on along it
-abbrev pub leaving_to : Content → Option EventId → Frame → ℕ → Option ℕ → Option End
-leaving_to c explained frame e None = None
-leaving_to c explained frame e (Some f) = Some (end_at c frame Lower e f (goes_on c explained frame e f))
+abbrev pub leaving_to : Content → Option EventId → Frame → (lanes : List ℕ) → ℕ → Option ℕ → Option End
+leaving_to c explained frame lanes e None = None
+leaving_to c explained frame lanes e (Some f) = Some (end_at c frame lanes Lower e f (goes_on c explained frame e f))
 
-abbrev pub leaving_of : Content → Option EventId → Frame → ℕ → Option End
-leaving_of c explained frame e = leaving_to c explained frame e (first_after c frame e)
+abbrev pub leaving_of : Content → Option EventId → Frame → (lanes : List ℕ) → ℕ → Option End
+leaving_of c explained frame lanes e = leaving_to c explained frame lanes e (first_after c frame e)
 
 -- the dot of an event
-abbrev pub dot_of : Content → Option EventId → Frame → ℕ → Dot
-dot_of c explained frame e = record {
+abbrev pub dot_of : Content → Option EventId → Frame → (lanes : List ℕ) → ℕ → Dot
+dot_of c explained frame lanes e = record {
   event = record { 0 = e };
   number = c.number e;
-  at = point_of frame (node_at c e) e;
+  shown = c.shown e;
+  at = point_of frame (lane_at c lanes e) e;
   half = frame.half;
   look = c.look e;
   is_marked = marked_at c explained e;

@@ -3,6 +3,7 @@ use Rattle.std.specs.Prelude.{ℕ, ◌++◌, List, Option}
 use Rattle.hlc_stamp.specs.declared.id.EventId.{EventId}
 use Rattle.hlc_figures.specs.Content.{Content}
 use Rattle.hlc_figures.specs.Figure.{arrow_of, band_of, dot_of, entering_of, leaving_of, link_of, stub_of}
+use Rattle.hlc_figures.specs.Lanes.{lane_of}
 use Rattle.hlc_svg.specs.Frame.{x_of}
 use Rattle.hlc_figures.specs.Row.{Cell, row_cells, row_text}
 use Rattle.hlc_svg.specs.Shapes.{arrow_text, band_text, dot_text, end_text, lane_text, link_text, if_drawn}
@@ -34,24 +35,25 @@ pub record NamedLane : Type 0 where
   pub lane : Lane
   pub name : List ℕ
 
-abbrev pub figure_of : Content → Option EventId → Frame → ℕ → Figure
-figure_of c explained frame e = record {
-  dot = dot_of c explained frame e;
+abbrev pub figure_of : Content → Option EventId → Frame → (lanes : List ℕ) → ℕ → Figure
+figure_of c explained frame lanes e = record {
+  dot = dot_of c explained frame lanes e;
   title = title_text c e;
   row = row_cells c frame e;
   band = band_of c explained frame e;
-  link = link_of c explained frame e;
-  stub = stub_of c explained frame e;
-  arrow = arrow_of c explained frame e;
-  entering = entering_of c explained frame e;
-  leaving = leaving_of c explained frame e;
+  link = link_of c explained frame lanes e;
+  stub = stub_of c explained frame lanes e;
+  arrow = arrow_of c explained frame lanes e;
+  entering = entering_of c explained frame lanes e;
+  leaving = leaving_of c explained frame lanes e;
 }
 
-abbrev pub lane_of : Frame → ℕ → Lane
-lane_of frame node = record { node = record { 0 = node }; x = x_of frame node; height = frame.height }
+-- the lane of a node
+abbrev pub lane_below : Frame → (lanes : List ℕ) → (node : ℕ) → Lane
+lane_below frame lanes node = record { node = record { 0 = node }; x = x_of frame (lane_of lanes node); height = frame.height }
 
-abbrev pub named_lane_of : Content → Frame → ℕ → NamedLane
-named_lane_of c frame node = record { lane = lane_of frame node; name = c.name node }
+abbrev pub named_lane_of : Content → Frame → (lanes : List ℕ) → ℕ → NamedLane
+named_lane_of c frame lanes node = record { lane = lane_below frame lanes node; name = c.name node }
 
 -- what of an event lies behind the lanes, what leads to it, and what stands before that
 unfoldable pub back_text : Figure → List ℕ

@@ -6,23 +6,31 @@ use Rattle.hlc_figures.specs.Chosen.{chosen}
 use Rattle.hlc_figures.specs.Columns.{column_x}
 use Rattle.hlc_figures.specs.Content.{Content, clock_events_of}
 use Rattle.hlc_figures.specs.Row.{Cell}
-use Rattle.hlc_figures.specs.declared.caption.Caption.{Caption}
-use Rattle.hlc_figures.specs.declared.caption.Explained.{Explained}
-use Rattle.hlc_figures.specs.declared.caption.Explained.TheVariants.{Chain, Missing, Nothing}
 use Rattle.hlc_figures.specs.declared.caption.Range.{Range}
 use Rattle.hlc_figures.specs.declared.caption.Range.TheVariants.{Events, NoEvent, Rows}
 use Rattle.hlc_svg.specs.declared.frame.Frame.{Frame}
 use Rattle.hlc_figures.specs.declared.head.TheConstants.{LEGEND, STYLE}
 use Rattle.hlc_svg.specs.declared.frame.TheConstants.{HEADING_Y}
 
--- an event is explained by its chain; if that is empty, there is no such event
-abbrev pub explained_by : Content → EventId → List ℕ → Explained
-explained_by c e [] = Missing e
-explained_by c e (origin ∷ rest) = Chain (c.number e.0) (c.number origin) (length (origin ∷ rest))
+-- that there is no event, and that a chain is marked, and how long it is
+abbrev pub missing_text : EventId → List ℕ
+missing_text e = codes " There is no event " ++ (decimal e.0 ++ codes ".")
 
-abbrev pub explained_of : Content → Option EventId → Explained
-explained_of c None = Nothing
-explained_of c (Some e) = explained_by c e (chosen (clock_events_of c) c.stamps (Some e))
+abbrev pub length_text : ℕ → List ℕ
+length_text n = codes " on, length " ++ (decimal n ++ codes ".")
+
+unfoldable pub chain_note : Content → (e origin n : ℕ) → List ℕ
+chain_note c e origin n = codes " Marked: the chain of event " ++ (c.event e ++ (codes ", from event " ++ (c.event origin ++ length_text n)))
+
+-- an event is explained by its chain; if that is empty, there is no such event
+abbrev pub note_by : Content → EventId → List ℕ → List ℕ
+note_by c e [] = missing_text e
+note_by c e (origin ∷ rest) = chain_note c e.0 origin (length (origin ∷ rest))
+
+-- what a picture says of what is explained
+abbrev pub note_of : Content → Option EventId → List ℕ
+note_of c None = []
+note_of c (Some e) = note_by c e (chosen (clock_events_of c) c.stamps (Some e))
 
 -- the numbers of the first and the last event that are drawn or, if events aren't in the order of their numbers, their rows, from 1
 abbrev pub range_of : Content → Frame → Range
@@ -30,25 +38,19 @@ range_of c frame =
     if nat_lt frame.first frame.end then
     (if c.in_order then Events (c.number frame.first) (c.number (frame.end - 1)) else Rows (frame.first + 1) frame.end) else NoEvent
 
-abbrev pub caption_of : Content → Option EventId → Frame → Caption
-caption_of c explained frame = record { range = range_of c frame; total = length c.events; explained = explained_of c explained }
-
--- what a picture says of what is explained
-abbrev pub note_text : Explained → List ℕ
-note_text Nothing = []
-note_text (Missing e) = codes " There is no event " ++ (decimal e.0 ++ codes ".")
-note_text (Chain e origin n) =
-    codes " Marked: the chain of event " ++ (decimal e ++ (codes ", from event " ++ (decimal origin ++ (codes " on, length " ++ (decimal n ++ codes ".")))))
-
 -- which events are drawn
 abbrev pub range_text : Range → List ℕ
 range_text NoEvent = codes "No event"
 range_text (Events first last) = codes "Events " ++ (decimal first ++ (codes " to " ++ decimal last))
 range_text (Rows first last) = codes "Rows " ++ (decimal first ++ (codes " to " ++ decimal last))
 
--- of how many, and what is explained
-abbrev pub caption_text : Caption → List ℕ
-caption_text caption = range_text caption.range ++ (codes " of " ++ (decimal caption.total ++ (codes "." ++ note_text caption.explained)))
+-- of how many
+abbrev pub drawn_text : Range → (total : ℕ) → List ℕ
+drawn_text range total = range_text range ++ (codes " of " ++ (decimal total ++ codes "."))
+
+-- and what is explained
+unfoldable pub caption_of : Content → Option EventId → Frame → List ℕ
+caption_of c explained frame = drawn_text (range_of c frame) (length c.events) ++ note_of c explained
 
 -- the element that all others stand in
 unfoldable pub root_text : Frame → List ℕ
@@ -58,19 +60,23 @@ root_text frame =
     ++ (decimal frame.height ++ codes "\" xml:space=\"preserve\">\n")))))))
 
 -- the title and the description
-unfoldable pub description_begins : Frame → Caption → List ℕ
+unfoldable pub description_begins : Frame → (caption : List ℕ) → List ℕ
 description_begins frame caption =
-    codes "<title>Space-time diagram of " ++ (decimal frame.nodes ++ (codes " nodes</title>\n<desc>" ++ (caption_text caption ++ (codes " "
+    codes "<title>Space-time diagram of " ++ (decimal frame.nodes ++ (codes " nodes</title>\n<desc>" ++ (caption ++ (codes " "
     ++ (LEGEND.now ++ codes " ")))))
 
-unfoldable pub description_text : Frame → Caption → (legend : List ℕ) → List ℕ
-description_text frame caption legend = description_begins frame caption ++ (legend ++ codes "</desc>\n")
+-- that some nodes have no lane, if there are any
+abbrev pub laneless_text : Frame → List ℕ
+laneless_text frame = if nat_lt frame.lanes frame.nodes then codes " Nodes without a row have no lane." else []
+
+unfoldable pub description_text : Frame → (caption : List ℕ) → (legend : List ℕ) → List ℕ
+description_text frame caption legend = description_begins frame caption ++ (legend ++ (laneless_text frame ++ codes "</desc>\n"))
 
 -- the ground and the caption
-unfoldable pub ground_text : Frame → Caption → List ℕ
+unfoldable pub ground_text : Frame → (caption : List ℕ) → List ℕ
 ground_text frame caption =
     codes "<rect class=\"w\" width=\"" ++ (decimal frame.width ++ (codes "\" height=\"" ++ (decimal frame.height
-    ++ (codes "\"/>\n<text class=\"h\" x=\"24\" y=\"22\">" ++ (caption_text caption ++ codes "</text>\n")))))
+    ++ (codes "\"/>\n<text class=\"h\" x=\"24\" y=\"22\">" ++ (caption ++ codes "</text>\n")))))
 
 -- the headings of the columns
 abbrev pub heading_of : Content → Frame → (column : ℕ) → Cell
@@ -85,6 +91,6 @@ heading_text cell = heading_begins cell.x cell.y ++ (cell.text ++ codes "</text>
 abbrev pub headings_text : List Cell → List ℕ
 headings_text cells = flat_map heading_text cells ++ codes "\n"
 
-unfoldable pub head_text : Frame → Caption → (legend : List ℕ) → (headings : List Cell) → List ℕ
+unfoldable pub head_text : Frame → (caption : List ℕ) → (legend : List ℕ) → (headings : List Cell) → List ℕ
 head_text frame caption legend headings =
     root_text frame ++ (description_text frame caption legend ++ (STYLE.now ++ (ground_text frame caption ++ headings_text headings)))

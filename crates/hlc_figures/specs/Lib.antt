@@ -6,6 +6,7 @@ pub mod Content
 pub mod Figure
 pub mod FigureText
 pub mod Head
+pub mod Lanes
 pub mod Row
 pub mod Scene
 pub mod Title

@@ -8,9 +8,9 @@ use Rattle.hlc_causality.specs.Places.{places_below}
 use Rattle.hlc_figures.specs.Content.{Content, node_at}
 use Rattle.hlc_figures.specs.Figure.{forcing_at}
 
--- the event's number and its node
+-- the event and its node
 abbrev pub place_begins : Content → ℕ → List ℕ
-place_begins c e = codes "<title>event " ++ (decimal (c.number e) ++ codes " at ")
+place_begins c e = codes "<title>event " ++ (c.event e ++ codes " at ")
 
 unfoldable pub place_text : Content → ℕ → List ℕ
 place_text c e = place_begins c e ++ (c.name (node_at c e) ++ codes "\n")
@@ -26,7 +26,7 @@ own_reason l reading = if nat_lt l reading then codes "as no stamp is lower" els
 -- why the least stamp of an event is no lower
 abbrev pub reason_text : Content → ℕ → Option ℕ → List ℕ
 reason_text c e None = own_reason (pair_at c.stamps e).l (skeleton_at c.events e).reading
-reason_text c e (Some d) = codes "forced by event " ++ decimal (c.number d)
+reason_text c e (Some d) = codes "forced by event " ++ c.event d
 
 -- how far l of a stamp is ahead of what the clock read, or behind that
 unfoldable pub drift_text : (l reading : ℕ) → List ℕ

@@ -1,62 +1,18 @@
 // What a picture says of itself.
 
-ghost use Rattle.std.specs.Prelude.{◌≡◌, ◌≤◌, Some, length};
+ghost use Rattle.std.specs.Prelude.{◌≡◌, ◌++◌, ◌<◌, ◌≤◌, IfOk, OnOk, Some, length, string_bytes};
 ghost use Rattle.hlc_stamp.specs.Ids.{places_of};
 ghost use Rattle.hlc_figures.specs.Chosen.{chosen};
 ghost use Rattle.hlc_figures.specs.Content.{clock_events_of};
-ghost use Rattle.hlc_figures.specs.Head.{caption_of, caption_text, explained_of, note_text, range_of, range_text};
+ghost use Rattle.hlc_figures.specs.Head.{caption_of, chain_note, drawn_text, length_text, missing_text, note_of, range_of, range_text};
 
 use crate::kept::count;
 use crate::subject::Subject;
 use hlc_stamp::EventId;
 use hlc_svg::frame::Frame;
+use hlc_svg::text::put;
+use std::alloc::{AllocError, Global};
 use std::fmt;
-
-/// What is explained in a picture, by the numbers of events.
-#[derive(Clone, Copy)]
-pub enum Explained {
-    Nothing,
-    Missing(EventId),
-    Chain { event: u32, origin: u32, len: usize },
-}
-
-impl fmt::Display for Explained {
-    ghost output = { λ explained. Some (note_text explained) };
-
-    fn fmt<W: fmt::Write>(&self, f: &mut fmt::Formatter<W>) -> fmt::Result {
-        match *self {
-            Explained::Nothing => Ok(()),
-            Explained::Missing(event) => write!(f, " There is no event {}.", event.0),
-            Explained::Chain { event, origin, len } => write!(
-                f,
-                " Marked: the chain of event {event}, from event {origin} on, length {len}."
-            ),
-        }
-    }
-}
-
-/// What is explained, by its chain.
-#[tactic(auto, using(crate::proofs::Links::explained_exists))]
-pub(crate) fn explain<S: Subject>(
-    subject: &S,
-    explained: Option<EventId>,
-    list: &[EventId],
-) -> Explained
-    requires { places_of list.now ≡ chosen (clock_events_of (S.content subject.now)) (S.content subject.now).stamps explained }
-    ensures { result ≡ explained_of (S.content subject.now) explained }
-{
-    let Some(event) = explained else {
-        return Explained::Nothing;
-    };
-    match list {
-        [origin, ..] => Explained::Chain {
-            event: subject.number(event),
-            origin: subject.number(*origin),
-            len: list.len(),
-        },
-        [] => Explained::Missing(event),
-    }
-}
 
 /// What is drawn, from first to last: events by their numbers, or rows, which are counted from 1.
 #[derive(Clone, Copy)]
@@ -98,37 +54,81 @@ fn drawn_range<S: Subject>(subject: &S, frame: Frame) -> Range
     }
 }
 
-/// Which events are drawn, of how many, and what is explained.
-#[derive(Clone, Copy)]
-pub struct Caption {
-    pub range: Range,
-    pub total: u32,
-    pub explained: Explained,
+// Which events are drawn, and of how many.
+fn put_drawn(text: &mut String, range: Range, total: u32) -> Result<(), AllocError>
+    ensures { OnOk result (string_bytes text.new ≡ string_bytes text.old ++ drawn_text range total) }
+{
+    write!(text, "{range} of {total}.")
 }
 
-impl fmt::Display for Caption {
-    ghost output = { λ caption. Some (caption_text caption) };
+// That there is no such event.
+fn put_missing(text: &mut String, event: EventId) -> Result<(), AllocError>
+    ensures { OnOk result (string_bytes text.new ≡ string_bytes text.old ++ missing_text event) }
+{
+    let number = event.0;
+    write!(text, " There is no event {number}.")
+}
 
-    fn fmt<W: fmt::Write>(&self, f: &mut fmt::Formatter<W>) -> fmt::Result {
-        let (range, total, note) = (self.range, self.total, self.explained);
-        write!(f, "{range} of {total}.{note}")
+// How long the marked chain is.
+fn put_length(text: &mut String, len: usize) -> Result<(), AllocError>
+    ensures { OnOk result (string_bytes text.new ≡ string_bytes text.old ++ length_text len) }
+{
+    write!(text, " on, length {len}.")
+}
+
+// That the chain of an event is marked, where it begins, and how long it is.
+fn put_chain<S: Subject>(
+    text: &mut String,
+    subject: &S,
+    event: EventId,
+    origin: EventId,
+    len: usize,
+) -> Result<(), AllocError>
+    requires event { event.0 < length (S.content subject.now).events }
+    requires origin { origin.0 < length (S.content subject.now).events }
+    ensures { OnOk result (string_bytes text.new ≡ string_bytes text.old ++ chain_note (S.content subject.now) event.0 origin.0 len) }
+{
+    put(text, " Marked: the chain of event ")?;
+    subject.put_event(text, event)?;
+    put(text, ", from event ")?;
+    subject.put_event(text, origin)?;
+    put_length(text, len)
+}
+
+// What is explained, by its chain.
+#[tactic(auto, using(crate::proofs::Links::explained_exists))]
+fn put_note<S: Subject>(
+    text: &mut String,
+    subject: &S,
+    explained: Option<EventId>,
+    list: &[EventId],
+) -> Result<(), AllocError>
+    requires { places_of list.now ≡ chosen (clock_events_of (S.content subject.now)) (S.content subject.now).stamps explained }
+    ensures { OnOk result (string_bytes text.new ≡ string_bytes text.old ++ note_of (S.content subject.now) explained) }
+{
+    let Some(event) = explained else {
+        return Ok(());
+    };
+    match list {
+        [origin, ..] => put_chain(text, subject, event, *origin, list.len()),
+        [] => put_missing(text, event),
     }
 }
 
-/// The caption of a picture in which this chain is marked.
+/// The caption of a picture in which this chain is marked: which events are drawn, of how many, and what is explained.
 pub fn caption_for<S: Subject>(
+    alloc: Global,
     subject: &S,
     frame: Frame,
     explained: Option<EventId>,
     list: &[EventId],
-) -> Caption
+) -> Result<String, AllocError>
     requires exist { frame.end ≤ length (S.content subject.now).events }
     requires list { places_of list.now ≡ chosen (clock_events_of (S.content subject.now)) (S.content subject.now).stamps explained }
-    ensures { result ≡ caption_of (S.content subject.now) explained frame }
+    ensures { IfOk result (λ caption. string_bytes caption ≡ caption_of (S.content subject.now) explained frame) }
 {
-    Caption {
-        range: drawn_range(subject, frame),
-        total: count(subject),
-        explained: explain(subject, explained, list),
-    }
+    let mut text = String::new(alloc);
+    put_drawn(&mut text, drawn_range(subject, frame), count(subject))?;
+    put_note(&mut text, subject, explained, list)?;
+    Ok(text)
 }

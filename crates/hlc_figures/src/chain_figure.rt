@@ -7,11 +7,13 @@ ghost use Rattle.hlc_figures.specs.ChainFigure.{StopExists, band_in, counted_in,
 
 use crate::chain_rows::{Gap, Standing, Stop};
 use crate::kept::{node, send};
+use crate::lanes::lane;
+use crate::scene::Scene;
 use crate::subject::Subject;
-use hlc_stamp::{EventId, NodeId};
+use hlc_stamp::EventId;
 use hlc_svg::arrow::Arrow;
 use hlc_svg::dot::Dot;
-use hlc_svg::frame::{Frame, ROW, row_y, x};
+use hlc_svg::frame::{Frame, LaneId, ROW, row_y, x};
 use hlc_svg::route::Route;
 use hlc_svg::shapes::{Band, Link, Point};
 use std::alloc::AllocError;
@@ -25,18 +27,19 @@ struct Counted {
 }
 
 /// The dot of an event in a row.
-pub fn stop_dot<S: Subject>(subject: &S, frame: Frame, at: Standing) -> Dot
+pub fn stop_dot<S: Subject>(subject: &S, scene: &Scene<'_>, at: Standing) -> Dot
     requires { at.event.0 < length (S.content subject.now).events }
-    ensures { result ≡ dot_in (S.content subject.now) frame at }
+    ensures { result ≡ dot_in (S.content subject.now) scene.now.frame scene.now.lanes.now at }
 {
     Dot {
         event: at.event,
         number: subject.number(at.event),
+        shown: subject.shown(at.event),
         at: Point {
-            x: u64::from(x(frame, node(subject, at.event))),
+            x: u64::from(x(scene.frame, lane(subject, scene.lanes, at.event))),
             y: row_y(at.row),
         },
-        half: frame.half,
+        half: scene.frame.half,
         look: subject.look(at.event),
         is_marked: true,
     }
@@ -53,17 +56,16 @@ pub fn stop_band(frame: Frame, at: Standing) -> Band
 }
 
 /// The step to an event along its lane.
-pub fn stop_link<S: Subject>(subject: &S, frame: Frame, stop: Stop) -> Option<Link>
+pub fn stop_link<S: Subject>(subject: &S, scene: &Scene<'_>, stop: Stop) -> Option<Link>
     requires { StopExists (S.content subject.now) stop }
-    ensures { result ≡ stop_link (S.content subject.now) frame stop }
+    ensures { result ≡ stop_link (S.content subject.now) scene.now.frame scene.now.lanes.now stop }
 {
     let before = stop.before?;
-    let node_of = node(subject, stop.at.event);
-    if node(subject, before.event).0 != node_of.0 {
+    if node(subject, before.event).0 != node(subject, stop.at.event).0 {
         return None;
     }
     Some(Link {
-        x: x(frame, node_of),
+        x: x(scene.frame, lane(subject, scene.lanes, stop.at.event)),
         from: row_y(before.row),
         to: row_y(stop.at.row),
     })
@@ -81,9 +83,9 @@ fn delivers<S: Subject>(subject: &S, event: EventId, sent: EventId) -> bool
 }
 
 /// The step to an event by a message.
-pub fn stop_arrow<S: Subject>(subject: &S, frame: Frame, stop: Stop) -> Option<Arrow>
+pub fn stop_arrow<S: Subject>(subject: &S, scene: &Scene<'_>, stop: Stop) -> Option<Arrow>
     requires { StopExists (S.content subject.now) stop }
-    ensures { result ≡ stop_arrow (S.content subject.now) frame stop }
+    ensures { result ≡ stop_arrow (S.content subject.now) scene.now.frame scene.now.lanes.now stop }
 {
     let (before, at) = (stop.before?, stop.at);
     if !delivers(subject, at.event, before.event) {
@@ -96,9 +98,9 @@ pub fn stop_arrow<S: Subject>(subject: &S, frame: Frame, stop: Stop) -> Option<A
             from_row: before.row,
             to_row: at.row,
             below: 0,
-            from: node(subject, before.event),
-            to: node(subject, at.event),
-            frame,
+            from: lane(subject, scene.lanes, before.event),
+            to: lane(subject, scene.lanes, at.event),
+            frame: scene.frame,
         },
         is_marked: true,
     })
@@ -128,7 +130,7 @@ fn count_in(frame: Frame, gap: Gap) -> Counted
     ensures { result ≡ counted_in frame gap }
 {
     Counted {
-        x: x(frame, NodeId(frame.nodes)),
+        x: x(frame, LaneId(frame.lanes)),
         y: row_y(gap.row),
         count: gap.count,
     }

@@ -20,29 +20,29 @@ use std::alloc::AllocError;
 fn put_stop_back<S: Subject>(
     text: &mut String,
     subject: &S,
-    frame: Frame,
+    scene: &Scene<'_>,
     stop: Stop,
 ) -> Result<(), AllocError>
     ensures { OnOk result (string_bytes text.new ≡ string_bytes text.old
-        ++ back_text (stop_figure (S.content subject.now) frame stop)) }
+        ++ back_text (stop_figure (S.content subject.now) scene.now.frame scene.now.lanes.now stop)) }
 {
     let _of = subject;
-    put_band(text, Some(stop_band(frame, stop.at)))
+    put_band(text, Some(stop_band(scene.frame, stop.at)))
 }
 
 // What leads to it.
 fn put_stop_lines<S: Subject>(
     text: &mut String,
     subject: &S,
-    frame: Frame,
+    scene: &Scene<'_>,
     stop: Stop,
 ) -> Result<(), AllocError>
     requires { StopExists (S.content subject.now) stop }
     ensures { OnOk result (string_bytes text.new ≡ string_bytes text.old
-        ++ lines_text (stop_figure (S.content subject.now) frame stop)) }
+        ++ lines_text (stop_figure (S.content subject.now) scene.now.frame scene.now.lanes.now stop)) }
 {
-    put_link(text, stop_link(subject, frame, stop))?;
-    put_arrow(text, stop_arrow(subject, frame, stop))
+    put_link(text, stop_link(subject, scene, stop))?;
+    put_arrow(text, stop_arrow(subject, scene, stop))
 }
 
 // Its dot and its row.
@@ -55,9 +55,9 @@ fn put_stop_front<S: Subject>(
     requires columns { AreColumnsOf (S.content subject.now) scene.now.frame scene.now.columns.now }
     requires exists { StopExists (S.content subject.now) stop }
     ensures { OnOk result (string_bytes text.new ≡ string_bytes text.old
-        ++ front_text (stop_figure (S.content subject.now) scene.now.frame stop)) }
+        ++ front_text (stop_figure (S.content subject.now) scene.now.frame scene.now.lanes.now stop)) }
 {
-    put_dot(text, subject, stop_dot(subject, scene.frame, stop.at))?;
+    put_dot(text, subject, stop_dot(subject, scene, stop.at))?;
     put_row(text, subject, scene, stop.at.event, row_y(stop.at.row))
 }
 
@@ -72,11 +72,11 @@ fn put_stop<S: Subject>(
     requires columns { AreColumnsOf (S.content subject.now) scene.now.frame scene.now.columns.now }
     requires exists { StopExists (S.content subject.now) stop }
     ensures { OnOk result (string_bytes text.new ≡ string_bytes text.old
-        ++ layer_text layer (stop_figure (S.content subject.now) scene.now.frame stop)) }
+        ++ layer_text layer (stop_figure (S.content subject.now) scene.now.frame scene.now.lanes.now stop)) }
 {
     match layer {
-        Layer::Back => put_stop_back(text, subject, scene.frame, stop),
-        Layer::Lines => put_stop_lines(text, subject, scene.frame, stop),
+        Layer::Back => put_stop_back(text, subject, scene, stop),
+        Layer::Lines => put_stop_lines(text, subject, scene, stop),
         Layer::Front => put_stop_front(text, subject, scene, stop),
     }
 }
@@ -102,7 +102,7 @@ pub fn put_item<S: Subject>(
     requires columns { AreColumnsOf (S.content subject.now) scene.now.frame scene.now.columns.now }
     requires exists { RowExists (S.content subject.now) row }
     ensures { OnOk result (string_bytes text.new ≡ string_bytes text.old
-        ++ item_text layer (item_of (S.content subject.now) scene.now.frame row)) }
+        ++ item_text layer (item_of (S.content subject.now) scene.now.frame scene.now.lanes.now row)) }
 {
     match row {
         ChainRow::Event(stop) => put_stop(text, layer, subject, scene, stop),

@@ -1,12 +1,15 @@
 // The columns of the rows beside the lanes.
 
 ghost use Rattle.std.specs.Prelude.{◌≡◌, ◌-◌, ◌<◌, ◌≤◌, IfOk, length};
-ghost use Rattle.hlc_figures.specs.Columns.{AreColumns, column_width, greatest_number, half_width, lane_distance, places_from};
+ghost use Rattle.hlc_figures.specs.Columns.{AreColumns, column_width, first_lane, greatest_number, half_width, lane_distance, places_from};
 
+use crate::figure::turn_distance;
+use crate::lanes::Lanes;
 use crate::subject::Subject;
-use hlc_stamp::EventId;
-use hlc_svg::frame::LANE;
+use hlc_stamp::{EventId, NodeId};
+use hlc_svg::frame::{FIRST_LANE, LANE};
 use hlc_svg::numbers::digits;
+use hlc_svg::shapes::Border;
 use std::alloc::{AllocError, Global};
 
 // How wide a character is.
@@ -18,15 +21,15 @@ pub(crate) const GAP: u64 = 2;
 /// How many characters a column has room for at least: so many a heading may have.
 pub const LEAST_WIDTH: u32 = 8;
 
-// The greatest number of the events that are drawn.
+// The greatest number that is shown of the events that are drawn.
 fn greatest<S: Subject>(subject: &S, first: u32, end: u32) -> u32
     requires ordered { first ≤ end }
     requires exist { end ≤ length (S.content subject.now).events }
-    ensures { result ≡ greatest_number (S.content subject.now).number (places_from first (end - first)) }
+    ensures { result ≡ greatest_number (S.content subject.now).shown (places_from first (end - first)) }
 {
     let mut greatest = 0;
     for place in first..end {
-        greatest = subject.number(EventId(place)).max(greatest);
+        greatest = subject.shown(EventId(place)).max(greatest);
     }
     greatest
 }
@@ -80,11 +83,22 @@ pub fn lane_distance(half: u8) -> u16
     LANE.max(4 * u16::from(half) + 4)
 }
 
+/// Where the first lane stands: if that isn't the lane of node 0, an arrow over a border may turn on its left.
+pub fn first_lane(lanes: &Lanes, half: u8) -> u16
+    ensures { result ≡ first_lane lanes.now half }
+{
+    if lanes.has(NodeId(0)) {
+        FIRST_LANE
+    } else {
+        FIRST_LANE.max(turn_distance(Border::Lower, half) + 4)
+    }
+}
+
 /// Half the width of a dot if these events are drawn.
 pub fn dot_half<S: Subject>(subject: &S, first: u32, end: u32) -> u8
     requires ordered { first ≤ end }
     requires exist { end ≤ length (S.content subject.now).events }
-    ensures { result ≡ half_width (greatest_number (S.content subject.now).number (places_from first (end - first))) }
+    ensures { result ≡ half_width (greatest_number (S.content subject.now).shown (places_from first (end - first))) }
 {
     half_width(greatest(subject, first, end))
 }

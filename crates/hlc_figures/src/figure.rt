@@ -2,16 +2,17 @@
 
 ghost use Rattle.std.specs.Prelude.{◌≡◌, ◌<◌, length};
 ghost use Rattle.hlc_causality.specs.FollowedChains.{is_event};
-ghost use Rattle.hlc_figures.specs.Figure.{arrow_of, band_of, border_of, dot_of, end_at, entering_of, is_step, leaving_of, link_of, link_top, next_of, number_distance, stub_of, turn_distance};
+ghost use Rattle.hlc_figures.specs.Figure.{arrow_of, band_of, border_of, dot_of, end_at, entering_of, is_left, is_step, leaving_of, link_of, link_top, next_of, number_distance, stub_of, turn_distance};
 ghost use Rattle.hlc_figures.specs.Scene.{IsDrawn, IsScene};
 
 use crate::kept::{first_after, forcing, is_forced_by, node, send};
+use crate::lanes::lane;
 use crate::scene::{Scene, is_marked, point};
 use crate::subject::Subject;
 use hlc_stamp::EventId;
 use hlc_svg::arrow::Arrow;
 use hlc_svg::dot::Dot;
-use hlc_svg::frame::{Frame, ROW, TOP, row, side, x, y};
+use hlc_svg::frame::{Frame, ROW, TOP, aside, row, x, y};
 use hlc_svg::route::Route;
 use hlc_svg::shapes::{Band, Border, End, Link};
 
@@ -45,18 +46,17 @@ fn link_top(frame: Frame, before: EventId) -> u64
 pub fn link<S: Subject>(subject: &S, scene: &Scene<'_>, event: EventId) -> Option<Link>
     requires scene { IsScene (S.content subject.now) scene.now }
     requires drawn { IsDrawn scene.now.frame event.0 }
-    ensures { result ≡ link_of (S.content subject.now) scene.now.explained scene.now.frame event.0 }
+    ensures { result ≡ link_of (S.content subject.now) scene.now.explained scene.now.frame scene.now.lanes.now event.0 }
 {
     if !is_marked(subject, scene, event) {
         return None;
     }
     let forcing = forcing(subject, event)?;
-    let (before, at) = (node(subject, forcing), node(subject, event));
-    if before.0 != at.0 {
+    if node(subject, forcing).0 != node(subject, event).0 {
         return None;
     }
     Some(Link {
-        x: x(scene.frame, at),
+        x: x(scene.frame, lane(subject, scene.lanes, event)),
         from: link_top(scene.frame, forcing),
         to: y(scene.frame, event),
     })
@@ -66,7 +66,7 @@ pub fn link<S: Subject>(subject: &S, scene: &Scene<'_>, event: EventId) -> Optio
 pub fn stub<S: Subject>(subject: &S, scene: &Scene<'_>, event: EventId) -> Option<Link>
     requires scene { IsScene (S.content subject.now) scene.now }
     requires drawn { IsDrawn scene.now.frame event.0 }
-    ensures { result ≡ stub_of (S.content subject.now) scene.now.explained scene.now.frame event.0 }
+    ensures { result ≡ stub_of (S.content subject.now) scene.now.explained scene.now.frame scene.now.lanes.now event.0 }
 {
     let next = scene.next?;
     let (after, at) = (node(subject, next), node(subject, event));
@@ -74,7 +74,7 @@ pub fn stub<S: Subject>(subject: &S, scene: &Scene<'_>, event: EventId) -> Optio
         return None;
     }
     Some(Link {
-        x: x(scene.frame, at),
+        x: x(scene.frame, lane(subject, scene.lanes, event)),
         from: y(scene.frame, event),
         to: scene.frame.height,
     })
@@ -93,7 +93,7 @@ fn is_step<S: Subject>(subject: &S, scene: &Scene<'_>, sent: EventId, event: Eve
 pub fn arrow<S: Subject>(subject: &S, scene: &Scene<'_>, event: EventId) -> Option<Arrow>
     requires scene { IsScene (S.content subject.now) scene.now }
     requires drawn { IsDrawn scene.now.frame event.0 }
-    ensures { result ≡ arrow_of (S.content subject.now) scene.now.explained scene.now.frame event.0 }
+    ensures { result ≡ arrow_of (S.content subject.now) scene.now.explained scene.now.frame scene.now.lanes.now event.0 }
 {
     let sent = send(subject, event)?;
     if sent.0 < scene.frame.first {
@@ -106,8 +106,8 @@ pub fn arrow<S: Subject>(subject: &S, scene: &Scene<'_>, event: EventId) -> Opti
             from_row: row(scene.frame, sent),
             to_row: row(scene.frame, event),
             below: 0,
-            from: node(subject, sent),
-            to: node(subject, event),
+            from: lane(subject, scene.lanes, sent),
+            to: lane(subject, scene.lanes, event),
             frame: scene.frame,
         },
         is_marked: is_step(subject, scene, sent, event),
@@ -124,8 +124,8 @@ fn border_y(frame: Frame, border: Border) -> u64
     }
 }
 
-// How far from a lane an arrow over a border turns. Those that come in and those that leave go side by side.
-fn turn_distance(border: Border, half: u8) -> u16
+/// How far from a lane an arrow over a border turns. Those that come in and those that leave go side by side.
+pub(crate) fn turn_distance(border: Border, half: u8) -> u16
     ensures { result ≡ turn_distance border half }
 {
     match border {
@@ -144,10 +144,19 @@ fn number_distance(border: Border, half: u8) -> u16
     }
 }
 
+// Whether an arrow over a border runs on the left of the dot of an event: on the side of the node of its other end, which needs no lane.
+fn is_left<S: Subject>(subject: &S, event: EventId, other: EventId) -> bool
+    requires event { event.0 < length (S.content subject.now).events }
+    requires other { other.0 < length (S.content subject.now).events }
+    ensures { result ≡ is_left (S.content subject.now) event.0 other.0 }
+{
+    node(subject, other).0 < node(subject, event).0
+}
+
 // The arrow over a border to the dot of an event, or from there, whose other end is this one.
 fn end<S: Subject>(
     subject: &S,
-    frame: Frame,
+    scene: &Scene<'_>,
     border: Border,
     event: EventId,
     other: EventId,
@@ -155,18 +164,22 @@ fn end<S: Subject>(
 ) -> End
     requires event { event.0 < length (S.content subject.now).events }
     requires other { other.0 < length (S.content subject.now).events }
-    ensures { result ≡ end_at (S.content subject.now) frame border event.0 other.0 is_marked }
+    ensures { result ≡ end_at (S.content subject.now) scene.now.frame scene.now.lanes.now border event.0 other.0 is_marked }
 {
-    let (from, to, half) = (node(subject, event), node(subject, other), frame.half);
+    let (frame, half) = (scene.frame, scene.frame.half);
+    let (at, is_left) = (
+        lane(subject, scene.lanes, event),
+        is_left(subject, event, other),
+    );
     End {
         border,
-        x: side(frame, from, to, u16::from(half)),
-        number_x: side(frame, from, to, number_distance(border, half)),
-        turn_x: side(frame, from, to, turn_distance(border, half)),
+        x: aside(frame, at, is_left, u16::from(half)),
+        number_x: aside(frame, at, is_left, number_distance(border, half)),
+        turn_x: aside(frame, at, is_left, turn_distance(border, half)),
         y: y(frame, event),
         border_y: border_y(frame, border),
         event: other,
-        number: subject.number(other),
+        number: subject.shown(other),
         is_marked,
     }
 }
@@ -175,14 +188,14 @@ fn end<S: Subject>(
 pub fn entering<S: Subject>(subject: &S, scene: &Scene<'_>, event: EventId) -> Option<End>
     requires scene { IsScene (S.content subject.now) scene.now }
     requires drawn { IsDrawn scene.now.frame event.0 }
-    ensures { result ≡ entering_of (S.content subject.now) scene.now.explained scene.now.frame event.0 }
+    ensures { result ≡ entering_of (S.content subject.now) scene.now.explained scene.now.frame scene.now.lanes.now event.0 }
 {
     let sent = send(subject, event)?;
     if sent.0 >= scene.frame.first {
         return None;
     }
     let is_marked = is_step(subject, scene, sent, event);
-    Some(end(subject, scene.frame, Border::Upper, event, sent, is_marked))
+    Some(end(subject, scene, Border::Upper, event, sent, is_marked))
 }
 
 // Whether the chain goes on with an event after the range.
@@ -201,30 +214,24 @@ fn is_next<S: Subject>(subject: &S, scene: &Scene<'_>, event: EventId) -> bool
 pub fn leaving<S: Subject>(subject: &S, scene: &Scene<'_>, event: EventId) -> Option<End>
     requires scene { IsScene (S.content subject.now) scene.now }
     requires drawn { IsDrawn scene.now.frame event.0 }
-    ensures { result ≡ leaving_of (S.content subject.now) scene.now.explained scene.now.frame event.0 }
+    ensures { result ≡ leaving_of (S.content subject.now) scene.now.explained scene.now.frame scene.now.lanes.now event.0 }
 {
     let delivered = first_after(subject, scene.frame, event)?;
     let is_marked = is_next(subject, scene, delivered) && is_forced_by(subject, delivered, event);
-    Some(end(
-        subject,
-        scene.frame,
-        Border::Lower,
-        event,
-        delivered,
-        is_marked,
-    ))
+    Some(end(subject, scene, Border::Lower, event, delivered, is_marked))
 }
 
 /// The dot of an event.
 pub fn dot<S: Subject>(subject: &S, scene: &Scene<'_>, event: EventId) -> Dot
     requires scene { IsScene (S.content subject.now) scene.now }
     requires drawn { IsDrawn scene.now.frame event.0 }
-    ensures { result ≡ dot_of (S.content subject.now) scene.now.explained scene.now.frame event.0 }
+    ensures { result ≡ dot_of (S.content subject.now) scene.now.explained scene.now.frame scene.now.lanes.now event.0 }
 {
     Dot {
         event,
         number: subject.number(event),
-        at: point(scene.frame, node(subject, event), event),
+        shown: subject.shown(event),
+        at: point(scene.frame, lane(subject, scene.lanes, event), event),
         half: scene.frame.half,
         look: subject.look(event),
         is_marked: is_marked(subject, scene, event),

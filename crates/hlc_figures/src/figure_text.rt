@@ -1,12 +1,13 @@
 // The text of what is drawn of an event.
 
 ghost use Rattle.std.specs.Prelude.{◌≡◌, ◌++◌, ◌<◌, OnOk, length, string_bytes};
-ghost use Rattle.hlc_figures.specs.FigureText.{back_text, figure_of, front_text, lane_of, layer_text, lines_text, named_lane_of, named_lane_text};
+ghost use Rattle.hlc_figures.specs.FigureText.{back_text, figure_of, front_text, lane_below, layer_text, lines_text, named_lane_of, named_lane_text};
 ghost use Rattle.hlc_svg.specs.Shapes.{dot_text};
 ghost use Rattle.hlc_figures.specs.Scene.{IsDrawn, IsScene};
 ghost use Rattle.hlc_figures.specs.Title.{title_text};
 
 use crate::figure::{arrow, band, dot, entering, leaving, link, stub};
+use crate::lanes::Lanes;
 use crate::layer::Layer;
 use crate::row::put_row;
 use crate::scene::Scene;
@@ -41,18 +42,18 @@ fn put_back<S: Subject>(
     requires scene { IsScene (S.content subject.now) scene.now }
     requires drawn { IsDrawn scene.now.frame event.0 }
     ensures { OnOk result (string_bytes text.new ≡ string_bytes text.old
-        ++ back_text (figure_of (S.content subject.now) scene.now.explained scene.now.frame event.0)) }
+        ++ back_text (figure_of (S.content subject.now) scene.now.explained scene.now.frame scene.now.lanes.now event.0)) }
 {
     put_band(text, band(subject, scene, event))
 }
 
 // The lane of a node.
-fn lane_below(frame: Frame, node: NodeId) -> Lane
-    ensures { result ≡ lane_of frame node.0 }
+fn lane_below(frame: Frame, lanes: &Lanes, node: NodeId) -> Lane
+    ensures { result ≡ lane_below frame lanes.now node.0 }
 {
     Lane {
         node,
-        x: x(frame, node),
+        x: x(frame, lanes.lane(node)),
         height: frame.height,
     }
 }
@@ -62,13 +63,14 @@ pub fn put_lane<S: Subject>(
     text: &mut String,
     subject: &S,
     frame: Frame,
+    lanes: &Lanes,
     node: NodeId,
 ) -> Result<(), AllocError>
     requires { node.0 < (S.content subject.now).nodes }
     ensures { OnOk result (string_bytes text.new ≡ string_bytes text.old
-        ++ named_lane_text (named_lane_of (S.content subject.now) frame node.0)) }
+        ++ named_lane_text (named_lane_of (S.content subject.now) frame lanes.now node.0)) }
 {
-    let lane = lane_below(frame, node);
+    let lane = lane_below(frame, lanes, node);
     put_lane_start(text, lane)?;
     subject.put_name(text, node)?;
     put_lane_line(text, lane)
@@ -84,7 +86,7 @@ fn put_lines<S: Subject>(
     requires scene { IsScene (S.content subject.now) scene.now }
     requires drawn { IsDrawn scene.now.frame event.0 }
     ensures { OnOk result (string_bytes text.new ≡ string_bytes text.old
-        ++ lines_text (figure_of (S.content subject.now) scene.now.explained scene.now.frame event.0)) }
+        ++ lines_text (figure_of (S.content subject.now) scene.now.explained scene.now.frame scene.now.lanes.now event.0)) }
 {
     put_link(text, link(subject, scene, event))?;
     put_link(text, stub(subject, scene, event))?;
@@ -103,7 +105,7 @@ fn put_front<S: Subject>(
     requires scene { IsScene (S.content subject.now) scene.now }
     requires drawn { IsDrawn scene.now.frame event.0 }
     ensures { OnOk result (string_bytes text.new ≡ string_bytes text.old
-        ++ front_text (figure_of (S.content subject.now) scene.now.explained scene.now.frame event.0)) }
+        ++ front_text (figure_of (S.content subject.now) scene.now.explained scene.now.frame scene.now.lanes.now event.0)) }
 {
     put_dot(text, subject, dot(subject, scene, event))?;
     put_row(text, subject, scene, event, y(scene.frame, event))
@@ -120,7 +122,7 @@ pub fn put_layer<S: Subject>(
     requires scene { IsScene (S.content subject.now) scene.now }
     requires drawn { IsDrawn scene.now.frame event.0 }
     ensures { OnOk result (string_bytes text.new ≡ string_bytes text.old
-        ++ layer_text layer (figure_of (S.content subject.now) scene.now.explained scene.now.frame event.0)) }
+        ++ layer_text layer (figure_of (S.content subject.now) scene.now.explained scene.now.frame scene.now.lanes.now event.0)) }
 {
     match layer {
         Layer::Back => put_back(text, subject, scene, event),

@@ -3,9 +3,8 @@
 ghost use Rattle.std.specs.Prelude.{◌≡◌, ◌++◌, ◌<◌, OnOk, map, string_bytes};
 ghost use Rattle.hlc_causality.specs.Places.{places_below};
 ghost use Rattle.hlc_figures.specs.Columns.{AreColumnsOf};
-ghost use Rattle.hlc_figures.specs.Head.{description_begins, description_text, ground_text, head_text, heading_begins, heading_of, heading_text, headings_text, root_text};
+ghost use Rattle.hlc_figures.specs.Head.{description_begins, description_text, ground_text, head_text, heading_begins, heading_of, heading_text, headings_text, laneless_text, root_text};
 
-use crate::caption::Caption;
 use crate::row::column_x;
 use crate::scene::Scene;
 use crate::subject::Subject;
@@ -59,12 +58,8 @@ fn put_root(text: &mut String, frame: Frame) -> Result<(), AllocError>
 
 // The title, and the description but for the legend.
 #[tactic(auto, unfolding(crate::specs::Head::description_begins))]
-fn put_description_start(
-    text: &mut String,
-    frame: Frame,
-    caption: Caption,
-) -> Result<(), AllocError>
-    ensures { OnOk result (string_bytes text.new ≡ string_bytes text.old ++ description_begins frame caption) }
+fn put_description_start(text: &mut String, frame: Frame, caption: &str) -> Result<(), AllocError>
+    ensures { OnOk result (string_bytes text.new ≡ string_bytes text.old ++ description_begins frame caption.now) }
 {
     let nodes = frame.nodes;
     write!(
@@ -73,25 +68,37 @@ fn put_description_start(
     )
 }
 
+// That some nodes have no lane, if there are any.
+fn laneless(frame: Frame) -> &'static str
+    ensures { result.now ≡ laneless_text frame }
+{
+    if frame.lanes < frame.nodes {
+        " Nodes without a row have no lane."
+    } else {
+        ""
+    }
+}
+
 // The title and the description.
 fn put_description<S: Subject>(
     text: &mut String,
     subject: &S,
     frame: Frame,
-    caption: Caption,
+    caption: &str,
 ) -> Result<(), AllocError>
     ensures { OnOk result (string_bytes text.new ≡ string_bytes text.old
-        ++ description_text frame caption (S.content subject.now).legend) }
+        ++ description_text frame caption.now (S.content subject.now).legend) }
 {
     put_description_start(text, frame, caption)?;
     subject.put_legend(text)?;
+    put(text, laneless(frame))?;
     put(text, "</desc>\n")
 }
 
 // How things look, the ground and the caption.
 #[tactic(auto, unfolding(crate::specs::Head::ground_text))]
-fn put_ground(text: &mut String, frame: Frame, caption: Caption) -> Result<(), AllocError>
-    ensures { OnOk result (string_bytes text.new ≡ string_bytes text.old ++ (STYLE.now ++ ground_text frame caption)) }
+fn put_ground(text: &mut String, frame: Frame, caption: &str) -> Result<(), AllocError>
+    ensures { OnOk result (string_bytes text.new ≡ string_bytes text.old ++ (STYLE.now ++ ground_text frame caption.now)) }
 {
     let (width, height) = (frame.width, frame.height);
     write!(
@@ -146,11 +153,11 @@ pub fn put_head<S: Subject>(
     text: &mut String,
     subject: &S,
     scene: &Scene<'_>,
-    caption: Caption,
+    caption: &str,
 ) -> Result<(), AllocError>
     requires { AreColumnsOf (S.content subject.now) scene.now.frame scene.now.columns.now }
     ensures { OnOk result (string_bytes text.new ≡ string_bytes text.old
-        ++ head_text scene.now.frame caption (S.content subject.now).legend
+        ++ head_text scene.now.frame caption.now (S.content subject.now).legend
         (map (heading_of (S.content subject.now) scene.now.frame) (places_below (S.content subject.now).columns))) }
 {
     put_root(text, scene.frame)?;

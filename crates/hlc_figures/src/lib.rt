@@ -3,9 +3,10 @@
 //!
 //! - `subject::Subject` says what is shown: an execution, and beside it the names of nodes, the numbers of events, their cells and looks.
 //! - `scene::Scene` says what of it is drawn, and where.
+//! - `lanes` are the nodes that have a lane: those of the events that are drawn, or all.
 //! - `figure_text` adds what a layer has of an event, and the lane of a node; `chain_text` what it has of a row of a chain.
 //! - `chain_rows` are the rows of a chain, and `columns` says where the cells beside the lanes begin.
-//! - `laws` has a theorem: dots of any number have room on the first lane.
+//! - `laws` has a theorem: dots of any number have room on the first lane, and so have arrows on its left.
 //! - `head` adds what stands before the lanes, with the caption of `caption`.
 #![tactic(auto)]
 
@@ -18,6 +19,7 @@ mod figure;
 pub mod figure_text;
 pub mod head;
 pub mod kept;
+pub mod lanes;
 pub mod laws;
 pub mod layer;
 mod row;

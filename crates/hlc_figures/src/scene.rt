@@ -4,15 +4,17 @@ ghost use Rattle.hlc_figures.specs.Figure.{marked_at};
 ghost use Rattle.hlc_svg.specs.Frame.{point_of};
 ghost use Rattle.hlc_figures.specs.Scene.{IsDrawn, IsScene};
 
+use crate::lanes::Lanes;
 use crate::subject::Subject;
-use hlc_stamp::{EventId, NodeId};
-use hlc_svg::frame::{Frame, x, y};
+use hlc_stamp::EventId;
+use hlc_svg::frame::{Frame, LaneId, x, y};
 use hlc_svg::shapes::Point;
 
 /// What of a subject is drawn, and where.
 #[derive(Clone, Copy)]
 pub struct Scene<'a> {
     pub frame: Frame,
+    pub lanes: &'a Lanes,
     /// The event whose chain is marked.
     pub explained: Option<EventId>,
     /// For each event that is drawn, whether it is marked.
@@ -33,12 +35,12 @@ pub(crate) fn is_marked<S: Subject>(subject: &S, scene: &Scene<'_>, event: Event
     scene.marks[(event.0 - scene.frame.first) as usize]
 }
 
-/// The middle of the dot of an event at this node.
-pub(crate) fn point(frame: Frame, node: NodeId, event: EventId) -> Point
-    ensures { result ≡ point_of frame node.0 event.0 }
+/// The middle of the dot of an event on this lane.
+pub(crate) fn point(frame: Frame, lane: LaneId, event: EventId) -> Point
+    ensures { result ≡ point_of frame lane.0 event.0 }
 {
     Point {
-        x: u64::from(x(frame, node)),
+        x: u64::from(x(frame, lane)),
         y: y(frame, event),
     }
 }

@@ -21,6 +21,10 @@ pub trait Subject {
         ensures events { result.now.events ≡ (content self.now).events }
         ensures stamps { result.now.stamps ≡ (content self.now).stamps };
 
+    /// Whether each node has a lane. If not, those have one of which an event is drawn.
+    fn has_every_lane(&self) -> bool
+        ensures { result ≡ (content self.now).every_lane };
+
     /// What the description says of the columns and of the looks of dots.
     fn put_legend(&self, text: &mut String) -> Result<(), AllocError>
         ensures { OnOk result (string_bytes text.new ≡ string_bytes text.old ++ (content self.now).legend) };
@@ -30,10 +34,20 @@ pub trait Subject {
         requires { node.0 < (content self.now).nodes }
         ensures { OnOk result (string_bytes text.new ≡ string_bytes text.old ++ (content self.now).name node.0) };
 
-    /// The number by which readers know an event. No two events have the same.
+    /// The number by which an event is known in a picture. No two events have the same.
     fn number(&self, event: EventId) -> u32
         requires { event.0 < length (content self.now).events }
         ensures { result ≡ (content self.now).number event.0 };
+
+    /// The number that is shown of an event, in which several may agree.
+    fn shown(&self, event: EventId) -> u32
+        requires { event.0 < length (content self.now).events }
+        ensures { result ≡ (content self.now).shown event.0 };
+
+    /// How a title or a caption names an event.
+    fn put_event(&self, text: &mut String, event: EventId) -> Result<(), AllocError>
+        requires { event.0 < length (content self.now).events }
+        ensures { OnOk result (string_bytes text.new ≡ string_bytes text.old ++ (content self.now).event event.0) };
 
     /// Whether events stand in the order of their numbers. If they don't, captions count rows.
     fn is_in_order(&self) -> bool

@@ -12,16 +12,17 @@ use hlc_stamp::{EventId, Stamp};
 use hlc_svg::text::put;
 use std::alloc::AllocError;
 
-// The number of an event.
+// How an event is named.
 fn put_start<S: Subject>(text: &mut String, subject: &S, event: EventId) -> Result<(), AllocError>
     requires { event.0 < length (S.content subject.now).events }
     ensures { OnOk result (string_bytes text.new ≡ string_bytes text.old ++ place_begins (S.content subject.now) event.0) }
 {
-    let number = subject.number(event);
-    write!(text, "<title>event {number} at ")
+    put(text, "<title>event ")?;
+    subject.put_event(text, event)?;
+    put(text, " at ")
 }
 
-// The number of an event and its node.
+// How an event is named, and its node.
 fn put_place<S: Subject>(text: &mut String, subject: &S, event: EventId) -> Result<(), AllocError>
     requires { event.0 < length (S.content subject.now).events }
     ensures { OnOk result (string_bytes text.new ≡ string_bytes text.old ++ place_text (S.content subject.now) event.0) }
@@ -110,8 +111,8 @@ fn put_reason<S: Subject>(text: &mut String, subject: &S, event: EventId) -> Res
 {
     match forcing(subject, event) {
         Some(before) => {
-            let number = subject.number(before);
-            write!(text, "forced by event {number}")
+            put(text, "forced by event ")?;
+            subject.put_event(text, before)
         }
         None => {
             let kept = kept(subject, event);

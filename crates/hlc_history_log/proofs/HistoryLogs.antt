@@ -14,6 +14,8 @@ use Rattle.hlc_log.specs.declared.message_id.MessageId.{MessageId}
 use Rattle.hlc_log.specs.declared.log_event.LogKind.{LogKind}
 use Rattle.hlc_log.specs.declared.log_event.LogKind.TheVariants as kind
 use Rattle.hlc_log.specs.CausalOrder.{IsEarlierOf}
+use Rattle.hlc_log.specs.Standing.{SeqsRise, seq_at}
+use Rattle.hlc_log.proofs.StandingEvents.{no_seqs_rise, place_stands, stands_by_place}
 use Rattle.hlc_log.specs.Events.{IsMessageBelow, event_at, no_event, own_rule, rule_by}
 use Rattle.hlc_log.specs.Messages.{AreMessagesSound, EachIsSentOnce, Receives as ReceivesMessage, ReceivesUnsent, Sends, SendsTo}
 use Rattle.hlc_log_text.specs.Laws.{HasNamedMessage}
@@ -34,6 +36,7 @@ pub record IsHistoryLog (events : List StampedEvent) (log : List LogEvent) : Typ
   pub stamp : (e : ℕ) → e < length events → (event_at log e).stamp ≡ stamp_at events e
   pub has_stamp : (e : ℕ) → e < length events → (event_at log e).has_stamp ≡ true
   pub carried : (e : ℕ) → e < length events → (event_at log e).carried ≡ None
+  pub seq : (e : ℕ) → e < length events → seq_at log e ≡ 0
   pub no_rule : (receives : Receives) (e : ℕ) → e < length events → own_rule receives (event_at log e) ≡ None
   pub to_earlier : (d e : ℕ) → IsEarlierOf log d e → IsEarlierAtNode (causality_of events) d e
   pub from_earlier : (d e : ℕ) → IsEarlierAtNode (causality_of events) d e → IsEarlierOf log d e
@@ -70,6 +73,7 @@ record HasTold (events : List StampedEvent) (e : ℕ) (told : NamedEvent) : Type
   node : told.node ≡ decimal (history_event_at events e).node
   message : told.message ≡ option_map decimal (message_of e (history_event_at events e).kind)
   carried : told.carried ≡ None
+  seq : told.seq ≡ 0
 
 some_is : (a b : List ℕ) → ◌≡◌ {A = Option (List ℕ)} (Some a) (Some b) → a ≡ b
 some_is a b same = cc same
@@ -221,6 +225,7 @@ module _ (h : History) (well : IsWellFormed h) (told : List NamedEvent) (text : 
         node = ap (λ (n : NamedEvent). n.node) is ∙ t.node;
         message = ap (λ (n : NamedEvent). n.message) is ∙ t.message;
         carried = ap (λ (n : NamedEvent). n.carried) is ∙ t.carried;
+        seq = ap (λ (n : NamedEvent). n.seq) is ∙ t.seq;
       }
 
   named : (e : ℕ) → e < length h.events → IsNamed text.nodes messages (event_at log e)
@@ -238,16 +243,19 @@ module _ (h : History) (well : IsWellFormed h) (told : List NamedEvent) (text : 
   skeleton_node : (e : ℕ) → (skeleton_at (causality_of h.events) e).node ≡ (history_event_at h.events e).node
   skeleton_node e = ap (λ (x : SkeletonEvent). x.node) (skeleton_at_place h.events e)
 
+  -- its events stand by their lines
+  seqs_rise : SeqsRise log
+  seqs_rise = no_seqs_rise log (λ e lt. (tells_of e (exists_back e lt)).seq)
+
   to_earlier : (d e : ℕ) → IsEarlierOf log d e → IsEarlierAtNode (causality_of h.events) d e
   to_earlier d e is =
       let later = exists_back e is.exists in
-      let before = is.earlier in
-      let first : d < length h.events = omega arith in
+      let first = exists_back d is.first_exists in
       let names : decimal (history_event_at h.events d).node ≡ decimal (history_event_at h.events e).node =
       sym (tells_of d first).node ∙ ap (name_of text.nodes) is.same_node ∙ (tells_of e later).node in
       let same = decimal_injective _ _ (node_small d first) (node_small e later) names in
       record {
-        earlier = is.earlier;
+        earlier = stands_by_place log seqs_rise d e is.first_exists is.before;
         exists = let whole = length_skeleton h.events in omega arith;
         same_node = skeleton_node d ∙ same ∙ sym (skeleton_node e);
       }
@@ -263,7 +271,8 @@ module _ (h : History) (well : IsWellFormed h) (told : List NamedEvent) (text : 
       let names : name_of text.nodes (event_at log d).node.0 ≡ name_of text.nodes (event_at log e).node.0 =
       (tells_of d first).node ∙ ap decimal same ∙ sym (tells_of e later).node in
       record {
-        earlier = is.earlier;
+        before = place_stands log seqs_rise d e before (exists e later);
+        first_exists = exists d first;
         exists = exists e later;
         same_node = same_number text.nodes _ _ nodes_once (named d first).0 (named e later).0 names;
       }
@@ -369,6 +378,7 @@ module _ (h : History) (well : IsWellFormed h) (told : List NamedEvent) (text : 
     stamp = λ e lt. (tells_of e lt).stamp;
     has_stamp = λ e lt. (tells_of e lt).has_stamp;
     carried = λ e lt. (tells_of e lt).carried;
+    seq = λ e lt. (tells_of e lt).seq;
     no_rule = λ receives e lt.
         let t = tells_of e lt in
         no_rule_told messages receives (event_at log e) (event_at log e).kind (history_event_at h.events e).kind e t.word t.message;

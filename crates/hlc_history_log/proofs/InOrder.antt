@@ -44,7 +44,7 @@ use Rattle.hlc_history_log.proofs.HistoryLogs.{IsHistoryLog}
 module _ (events : List StampedEvent) (log : List LogEvent) (is : IsHistoryLog events log) where
   -- the history's own order is causal
   needs_earlier : (f e : ℕ) → Needs log f e → e < f
-  needs_earlier f e (inl at_node) = at_node.earlier
+  needs_earlier f e (inl at_node) = (is.to_earlier e f at_node).earlier
   needs_earlier f e (inr sends) = (is.to_send e f sends).earlier
 
   abbrev own_order : List ℕ

@@ -29,7 +29,7 @@ use Rattle.hlc_log_text.specs.declared.log_text.LogText.{LogText}
 use Rattle.hlc_log_text.proofs.PlainLogs.{placed_say, said_once}
 use Rattle.hlc_log_text.proofs.NamedNodes.{read_names}
 use Rattle.hlc_history_log.specs.Label.{label_of}
-use Rattle.hlc_history_log.specs.Laws.{IsClocked, IsLogRead, LogsAuditClean, LogsHaveAnOrder, LogsTellEventsAlone, LogsTellNothingCarried, LogsTellReadings, LogsTellStamps, RowsMakeEvents, TellHistory, TellsOf}
+use Rattle.hlc_history_log.specs.Laws.{IsClocked, IsLogRead, LogsAuditClean, LogsHaveAnOrder, LogsTellEventsAlone, LogsTellNoSeqs, LogsTellNothingCarried, LogsTellReadings, LogsTellStamps, RowsMakeEvents, TellHistory, TellsOf}
 use Rattle.hlc_history_log.specs.LogRows.{log_row, log_rows, log_text, message_of}
 use Rattle.hlc_history_log.proofs.FewNodes.{IsDecimalBelow, few_names}
 use Rattle.hlc_history_log.proofs.HistoryLogs.{IsHistoryLog, is_history_log}
@@ -153,7 +153,7 @@ module _ (h : History) (clocked : IsClocked h) where
   tells_history : TellHistory h.events told
   tells_history = record {
     one_each = told_size;
-    each = λ e d lt. subst (TellsOf h.events e) (sym (told_is e d lt)) (record { word = refl; reading = refl; has_reading = refl; stamp = refl; has_stamp = refl; node = refl; message = refl; from = refl; carried = refl; label = refl });
+    each = λ e d lt. subst (TellsOf h.events e) (sym (told_is e d lt)) (record { word = refl; reading = refl; has_reading = refl; stamp = refl; has_stamp = refl; node = refl; message = refl; from = refl; carried = refl; seq = refl; label = refl });
   }
 
   nodes_below : All (IsDecimalBelow MAX_NODES) (map (λ (e : NamedEvent). e.node) told)
@@ -174,7 +174,7 @@ module _ (h : History) (clocked : IsClocked h) where
       omega (arith, few)
 
   say_items : SayItems (exact_rules form.Pair) (log_rows h.events) (map tells_it told)
-  say_items = placed_say (exact_rules form.Pair) [] (log_rows h.events) (map tells_it told) refl (rows_tell (length h.events) (omega arith))
+  say_items = placed_say (exact_rules form.Pair) [] (log_rows h.events) (map tells_it told) refl refl (rows_tell (length h.events) (omega arith))
 
   makes_items : MakeItems (exact_rules form.Pair) (log_rows h.events) (map tells_it told)
   makes_items = (say_items, few_told)
@@ -235,6 +235,11 @@ pub logs_tell_nothing_carried : LogsTellNothingCarried
 logs_tell_nothing_carried h text e clocked read lt =
     let is = log_is_read h clocked text read in
     is.carried e (let same = is.size in omega arith)
+
+pub logs_tell_no_seqs : LogsTellNoSeqs
+logs_tell_no_seqs h text e clocked read lt =
+    let is = log_is_read h clocked text read in
+    is.seq e (let same = is.size in omega arith)
 
 pub logs_audit_clean : LogsAuditClean
 logs_audit_clean h text log clocked read ticks same in_order =

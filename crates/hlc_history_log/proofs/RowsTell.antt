@@ -88,6 +88,7 @@ told_event e x label = record {
   message = option_map decimal (message_of e x.event.kind);
   from = None;
   carried = None;
+  seq = 0;
   label = Some label;
 }
 

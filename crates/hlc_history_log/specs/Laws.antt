@@ -9,6 +9,7 @@ use Rattle.hlc_arena.specs.History.{Delivered, Erased, EventKind, History, Sent,
 use Rattle.hlc_causes.specs.Causes.{no_causes}
 use Rattle.hlc_csv.specs.Records.{AreAllOf, IsOnly}
 use Rattle.hlc_log.specs.Events.{event_at as log_event_at}
+use Rattle.hlc_log.specs.Standing.{seq_at}
 use Rattle.hlc_log.specs.declared.log_event.LogKind.{LogKind}
 use Rattle.hlc_log.specs.declared.log_event.LogKind.TheVariants as kind
 use Rattle.hlc_log_report.specs.Found.{NamesCausesIn}
@@ -44,7 +45,7 @@ log_kind e (Synced to writes) = kind.Send (record { 0 = e })
 log_kind e (Delivered sent) = kind.Receive (record { 0 = sent })
 
 -- what is told is the event at e: its word, its reading and its stamp, and as a label what happened; its node and its message go by
--- their numbers, no sender is named in place of the message, and nothing is told of what that carried
+-- their numbers, no sender is named in place of the message, and nothing is told of what that carried, and no seq
 pub record TellsOf (events : List StampedEvent) (e : ℕ) (told : NamedEvent) : Type 0 where
   pub word : told.head.word ≡ kind_word (log_kind e (event_at events e).kind)
   pub reading : told.head.reading ≡ (event_at events e).reading
@@ -55,6 +56,7 @@ pub record TellsOf (events : List StampedEvent) (e : ℕ) (told : NamedEvent) : 
   pub message : told.message ≡ option_map decimal (message_of e (event_at events e).kind)
   pub from : told.from ≡ None
   pub carried : told.carried ≡ None
+  pub seq : told.seq ≡ 0
   pub label : told.label ≡ Some (label_of events (event_at events e).kind)
 
 -- told events are those of a history, in its order
@@ -115,6 +117,10 @@ LogsTellStamps = (h : History) (text : LogText) (e : ℕ) → IsClocked h → Is
 abbrev pub LogsTellNothingCarried : Type 0
 LogsTellNothingCarried = (h : History) (text : LogText) (e : ℕ) → IsClocked h → IsLogRead h text → e < length text.log.events →
     (log_event_at text.log.events e).carried ≡ None
+
+-- and of no event a seq
+abbrev pub LogsTellNoSeqs : Type 0
+LogsTellNoSeqs = (h : History) (text : LogText) (e : ℕ) → IsClocked h → IsLogRead h text → e < length text.log.events → seq_at text.log.events e ≡ 0
 
 -- no event of a log in order is a cause, whatever c can be written
 abbrev pub HasNoCause : LogInOrder → Type 0

@@ -2,11 +2,11 @@
 //!
 //! They speak of any history as a cluster makes them: well-formed, with readings of clocks, and with least stamps.
 
-ghost use Rattle.hlc_history_log.specs.Laws.{LogsAuditClean, LogsHaveAnOrder, LogsReadBack, LogsTellEventsAlone, LogsTellNothingCarried, LogsTellReadings, LogsTellStamps, RowsMakeEvents, TwoLinesEach};
+ghost use Rattle.hlc_history_log.specs.Laws.{LogsAuditClean, LogsHaveAnOrder, LogsReadBack, LogsTellEventsAlone, LogsTellNoSeqs, LogsTellNothingCarried, LogsTellReadings, LogsTellStamps, RowsMakeEvents, TwoLinesEach};
 
 /// The text of a log is read as its rows, and the rows tell of the events of the history, in its order: of each one what it is,
 /// its reading and its stamp, with its node and its message by their numbers. They ask nothing, leave no reading and no stamp out, and don't tell
-/// which stamps messages carried.
+/// which stamps messages carried, nor a seq: each node's events stand by their lines.
 pub fn logs_tell_of_their_histories()
     ensures read_back { LogsReadBack }
     ensures events { RowsMakeEvents }
@@ -14,6 +14,7 @@ pub fn logs_tell_of_their_histories()
     ensures readings { LogsTellReadings }
     ensures stamps { LogsTellStamps }
     ensures carried { LogsTellNothingCarried }
+    ensures seqs { LogsTellNoSeqs }
 {}
 
 /// The log of a history audits clean: whoever reads it finds an order in which each message is sent before it is received, and

@@ -1,3 +1,4 @@
+pub mod FileFacts
 pub mod LineFacts
 pub mod MarkFacts
 pub mod PartFacts

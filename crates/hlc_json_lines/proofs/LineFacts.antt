@@ -5,7 +5,7 @@ use Rattle.std.specs.Io.BufRead.{drop_through, take_through}
 use Rattle.csv.specs.Reading.{strip_bom}
 use Rattle.csv.specs.Writing.{is_blank as is_empty, row_body}
 use Rattle.hlc_csv.specs.Rows.{Fields, row_setup, text_of_row}
-use Rattle.hlc_json_lines.specs.EventRow.{is_blank, text_of_line, value_of, value_row}
+use Rattle.hlc_json_lines.specs.EventRow.{is_blank, line_row, text_of_line}
 use Rattle.hlc_json_lines.specs.Lines.{lines_of, log_text, onto_line, text_of_lines}
 use Rattle.hlc_json_lines.specs.Rules.{Rules}
 
@@ -37,9 +37,9 @@ row-some fields =
     let quotes : List ℕ = if is_empty row_setup fields then 34 ∷ 34 ∷ [] else [] in
     omega (arith, length-append (row_body row_setup fields) (quotes ++ 10 ∷ []), length-append quotes (10 ∷ []))
 
-unmarked-some : (rules : Rules) (line : List ℕ) (blank : Bool) → 0 < length (if blank then 10 ∷ [] else text_of_row (value_row rules (value_of line)))
+unmarked-some : (rules : Rules) (line : List ℕ) (blank : Bool) → 0 < length (if blank then 10 ∷ [] else text_of_row (line_row rules line))
 unmarked-some rules line true = omega arith
-unmarked-some rules line false = row-some (value_row rules (value_of line))
+unmarked-some rules line false = row-some (line_row rules line)
 
 -- so does the text of each line
 pub text_of_line-some : (rules : Rules) (line : List ℕ) → 0 < length (text_of_line rules line)

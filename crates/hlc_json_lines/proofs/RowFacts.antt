@@ -1,7 +1,8 @@
 -- The text of the row of an event.
-use Rattle.std.proofs.Common.{◌≡◌, ◌∙◌, ◌++◌, ◌∷◌, ℕ, Bool, true, false, List, [], Some, None, refl, sym, ap, append_assoc}
-use Rattle.std.specs.Prelude.{codes, if◌then◌else◌}
-use Rattle.csv.specs.Writing.{field_text, fields_text, is_blank}
+use Rattle.std.proofs.Common.{◌≡◌, ◌∙◌, ◌++◌, ◌∷◌, ℕ, Bool, true, false, List, [], Some, None, append-nil, arith, cond, length, refl, sym, ap, append_assoc}
+use Rattle.std.specs.Prelude.{◌≢◌, ◌==◌, codes, if◌then◌else◌}
+use Rattle.std.proofs.lemmas.Bool.{ne_eqb}
+use Rattle.csv.specs.Writing.{escaped, field_text, fields_text, is_blank, needs_quotes}
 use Rattle.serde_json.specs.Data.{Data}
 use Rattle.serde_json.specs.Read.{read}
 use Rattle.std.specs.Str.{IsUtf8, is_utf8}
@@ -28,6 +29,20 @@ event-row before rules value w =
     let fields = fields_text row_setup (column_fields rules w value event_columns) in
     append_assoc (before ++ word_text w) fields (10 ∷ []) ∙ append_assoc before (word_text w) (fields ++ 10 ∷ [])
     ∙ ap (λ (t : List ℕ). before ++ t) (sym (rw (word-plain w) (append_assoc (word_text w) fields (10 ∷ []))))
+
+-- a field that isn't empty shows something
+shown : (field : List ℕ) → length field ≢ 0 → (length (field_text row_setup field) == 0) ≡ false
+shown field some = by (needs_quotes row_setup field) where
+  by : (test : Bool) → (length (cond test (34 ∷ (escaped row_setup field ++ 34 ∷ [])) field) == 0) ≡ false
+  by true = ne_eqb _ 0 (λ none. absurd (omega (arith, none)))
+  by false = ne_eqb (length field) 0 some
+
+-- the row of such a field
+pub one-field : (before field : List ℕ) → length field ≢ 0 → (before ++ field_text row_setup field) ++ 10 ∷ [] ≡ before ++ text_of_row (field ∷ [])
+unfolding text_of_row is_blank fields_text
+one-field before field some =
+    append_assoc before (field_text row_setup field) (10 ∷ [])
+    ∙ ap (λ (t : List ℕ). before ++ t) (sym (rw (append-nil (field_text row_setup field), shown field some) refl))
 
 -- the row of a line that tells of no event
 pub skipped-row : text_of_row skipped_row ≡ codes "skipped\n"

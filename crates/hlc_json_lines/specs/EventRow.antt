@@ -1,11 +1,12 @@
 -- The row that a line makes.
-use Rattle.std.specs.Prelude.{◌≡◌, ◌==◌, ◌||◌, ℕ, Bool, true, false, List, [], ◌∷◌, Option, Some, None, codes, if◌then◌else◌, map}
+use Rattle.std.specs.Prelude.{◌≡◌, ◌==◌, ◌||◌, ℕ, Bool, true, false, List, [], ◌∷◌, Option, Some, None, codes, if◌then◌else◌, map, unwrap_or}
 use Rattle.std.specs.List.{list_all}
 use Rattle.std.specs.Str.{is_utf8}
 use Rattle.csv.specs.Reading.{strip_bom}
 use Rattle.serde_json.specs.Data.{Data}
 use Rattle.serde_json.specs.Read.{read}
 use Rattle.hlc_csv.specs.Rows.{Fields, text_of_row}
+use Rattle.hlc_log_text.specs.FileMarks.{before_bytes, file_name}
 use Rattle.hlc_log_text.specs.LogWord.{word_text}
 use Rattle.hlc_log_text.specs.declared.log_column.LogColumn.{LogColumn}
 use Rattle.hlc_log_text.specs.declared.log_column.LogColumn.TheVariants as column
@@ -18,7 +19,7 @@ use Rattle.hlc_json_lines.specs.Rules.{Rules, after_point, before_point, path_of
 abbrev pub event_columns : List LogColumn
 event_columns =
     column.Node ∷ column.Reading ∷ column.L ∷ column.C ∷ column.Stamp ∷ column.Message ∷ column.From ∷ column.Carried ∷ column.CarriedL ∷ column.CarriedC
-    ∷ column.Label ∷ []
+    ∷ column.Seq ∷ column.Label ∷ []
 
 -- the field of a column that an object has under the own path of the column, in an event of a word
 abbrev pub own_field : Rules → LogWord → Data → LogColumn → List ℕ
@@ -56,6 +57,7 @@ column_field rules word value column.From = own_field rules word value column.Fr
 column_field rules word value column.Carried = own_field rules word value column.Carried
 column_field rules word value column.CarriedL = first_part rules word value column.CarriedL column.CarriedC column.Carried
 column_field rules word value column.CarriedC = second_part rules word value column.CarriedL column.CarriedC column.Carried
+column_field rules word value column.Seq = own_field rules word value column.Seq
 column_field rules word value column.Label = own_field rules word value column.Label
 
 -- the fields of columns
@@ -92,9 +94,23 @@ is_blank_byte byte = byte == 32 || byte == 9 || byte == 13 || byte == 10
 abbrev pub is_blank : List ℕ → Bool
 is_blank line = list_all is_blank_byte line
 
+-- a line without a line feed at its end, and without a carriage return before that
+abbrev pub without_end : List ℕ → List ℕ
+without_end line =
+    let unfed = unwrap_or (before_bytes (10 ∷ []) line) line in
+    unwrap_or (before_bytes (13 ∷ []) unfed) unfed
+
+-- the row of a line: the mark of a file of this name, or that of its value if it marks none
+abbrev pub row_by_file : Rules → List ℕ → Option (List ℕ) → Fields
+row_by_file rules line None = value_row rules (value_of line)
+row_by_file rules line (Some name) = without_end line ∷ []
+
+unfoldable pub line_row : Rules → List ℕ → Fields
+line_row rules line = row_by_file rules line (file_name (without_end line))
+
 -- the text that a line without a byte order mark makes
 abbrev pub text_of_unmarked : Rules → List ℕ → List ℕ
-text_of_unmarked rules line = if is_blank line then 10 ∷ [] else text_of_row (value_row rules (value_of line))
+text_of_unmarked rules line = if is_blank line then 10 ∷ [] else text_of_row (line_row rules line)
 
 -- the text that a line makes
 abbrev pub text_of_line : Rules → List ℕ → List ℕ

@@ -60,6 +60,7 @@ column_text column.From text = text
 column_text column.Carried text = stamp_text text
 column_text column.CarriedL text = text
 column_text column.CarriedC text = text
+column_text column.Seq text = text
 column_text column.Label text = text
 
 -- the field of a column that a value makes

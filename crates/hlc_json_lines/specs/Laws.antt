@@ -3,13 +3,13 @@ use Rattle.std.specs.Prelude.{ℕ, List, [], ◌∷◌, ◌++◌, Some, if◌the
 use Rattle.csv.specs.Reading.{strip_bom}
 use Rattle.hlc_csv.specs.Records.{AreAllOf, IsOnly}
 use Rattle.hlc_csv.specs.Rows.{Fields}
-use Rattle.hlc_json_lines.specs.EventRow.{is_blank, value_of, value_row}
+use Rattle.hlc_json_lines.specs.EventRow.{is_blank, line_row}
 use Rattle.hlc_json_lines.specs.Lines.{lines_of, log_text}
 use Rattle.hlc_json_lines.specs.Rules.{Rules}
 
 -- the rows of a line without a byte order mark: none, if it is blank
 abbrev pub rows_of_unmarked : Rules → List ℕ → List Fields
-rows_of_unmarked rules line = if is_blank line then [] else value_row rules (value_of line) ∷ []
+rows_of_unmarked rules line = if is_blank line then [] else line_row rules line ∷ []
 
 -- the rows of lines
 abbrev pub rows_of : Rules → List (List ℕ) → List Fields

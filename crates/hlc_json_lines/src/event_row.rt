@@ -1,17 +1,17 @@
 // The row that a line makes.
 
-ghost use Rattle.std.specs.Prelude.{◌≡◌, ◌++◌, ◌∷◌, IfOk, OnOk};
+ghost use Rattle.std.specs.Prelude.{◌≡◌, ◌≢◌, ◌++◌, ◌∷◌, [], IfOk, OnOk, length};
 ghost use Rattle.csv.specs.Reading.{strip_bom};
 ghost use Rattle.csv.specs.Writing.{field_text, fields_text};
 ghost use Rattle.serde_json.specs.View.{view};
 ghost use Rattle.hlc_csv.specs.Rows.{row_setup, text_of_row};
-ghost use Rattle.hlc_json_lines.specs.EventRow.{IsPartRead, column_field, column_fields, event_columns, event_row, first_part, is_blank, own_field, second_part, skipped_row, text_of_line, text_of_unmarked, value_of, value_row, word_in};
+ghost use Rattle.hlc_json_lines.specs.EventRow.{IsPartRead, column_field, column_fields, event_columns, event_row, first_part, is_blank, line_row, own_field, second_part, skipped_row, text_of_line, text_of_unmarked, value_of, value_row, without_end, word_in};
 
 use crate::field_text::{after_point, before_point, put_field, put_plain, text_if_there};
 use crate::json_rules::JsonRules;
 use crate::path_rule::value_at;
-use hlc_csv::RowField;
-use hlc_log_text::{LogColumn, LogWord};
+use hlc_csv::{RowField, put_text};
+use hlc_log_text::{LogColumn, LogWord, file_name};
 use itoa::Buffer;
 use serde_json::Value;
 use std::alloc::{AllocError, Global};
@@ -20,7 +20,7 @@ use std::alloc::{AllocError, Global};
 const BYTE_ORDER_MARK: [u8; 3] = [0xEF, 0xBB, 0xBF];
 
 // The columns after that of the word.
-const EVENT_COLUMNS: [LogColumn; 11] = [
+const EVENT_COLUMNS: [LogColumn; 12] = [
     LogColumn::Node,
     LogColumn::Reading,
     LogColumn::L,
@@ -31,6 +31,7 @@ const EVENT_COLUMNS: [LogColumn; 11] = [
     LogColumn::Carried,
     LogColumn::CarriedL,
     LogColumn::CarriedC,
+    LogColumn::Seq,
     LogColumn::Label,
 ];
 
@@ -242,6 +243,41 @@ fn without_mark(line: &[u8]) -> &[u8]
     }
 }
 
+// A line without what ends it.
+fn without_end(line: &[u8]) -> &[u8]
+    ensures { result.now ≡ without_end line.now }
+{
+    let line = line.strip_suffix(b"\n").unwrap_or(line);
+    line.strip_suffix(b"\r").unwrap_or(line)
+}
+
+// Adds the row of a file mark.
+fn put_mark(row: &mut Vec<u8>, mark: &[u8]) -> Result<(), AllocError>
+    requires { length mark.now ≢ 0 }
+    ensures { OnOk result (row.new.items ≡ row.old.items ++ text_of_row (mark.now ∷ [])) }
+{
+    put_text(row, mark)?;
+    row.extend_from_slice(b"\n")
+}
+
+// Adds the row of a line that isn't blank.
+#[tactic(auto, unfolding(crate::specs::EventRow::line_row))]
+fn put_row(
+    alloc: Global,
+    row: &mut Vec<u8>,
+    field: &mut Vec<u8>,
+    rules: &JsonRules,
+    line: &[u8],
+) -> Result<(), AllocError>
+    ensures { OnOk result (row.new.items ≡ row.old.items ++ text_of_row (line_row rules.now line.now)) }
+{
+    let mark = without_end(line);
+    if file_name(mark).is_some() {
+        return put_mark(row, mark);
+    }
+    put_bytes(alloc, row, field, rules, line)
+}
+
 // Adds the text of a line. What `field` had is gone.
 pub(crate) fn put_line(
     alloc: Global,
@@ -256,5 +292,5 @@ pub(crate) fn put_line(
     if is_blank(line) {
         return row.extend_from_slice(b"\n");
     }
-    put_bytes(alloc, row, field, rules, line)
+    put_row(alloc, row, field, rules, line)
 }

@@ -4,7 +4,10 @@ pub mod ResentLogs
 pub mod SentMessages
 pub mod SentStamps
 pub mod ToldApart
+pub mod StandingEvents
+pub mod StandingOrders
 pub mod CausalOrders
+pub mod CarriedOrders
 pub mod LoggedOrders
 pub mod OwnRules
 pub mod StoredEvents
@@ -19,3 +22,6 @@ pub mod ClockReorderings
 pub mod ClockReorderedChains
 pub mod OrderSkeletons
 pub mod Agreement
+pub mod CopiedLogs
+pub mod Arranged
+pub mod KeptEvents

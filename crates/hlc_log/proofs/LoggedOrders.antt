@@ -7,6 +7,8 @@ use Rattle.hlc_causality.specs.Places.{places_below}
 use Rattle.hlc_causality.proofs.PlacesBelow.{length-places_below, place_at as place_below}
 use Rattle.hlc_log.specs.declared.log_event.LogEvent.{LogEvent}
 use Rattle.hlc_log.specs.CausalOrder.{ComesAfterSend, IsCausalOrder, MayComeNext, Needs, SendsComeFirst, place_at}
+use Rattle.hlc_log.specs.Standing.{SeqsRise}
+use Rattle.hlc_log.proofs.StandingEvents.{stands_by_place}
 use Rattle.hlc_log.proofs.CausalOrders.{contained_before, place_of_contained}
 
 module _ (events : List LogEvent) where
@@ -43,9 +45,9 @@ module _ (events : List LogEvent) where
       let same : at.0 ≡ k = sym (logged_at at.0 (omega arith)) ∙ at.2 in
       omega arith
 
-  module _ (first : SendsComeFirst events) where
+  module _ (rise : SeqsRise events) (first : SendsComeFirst events) where
     needed_before : (e f : ℕ) → Needs events f e → e < f
-    needed_before e f (inl at_node) = at_node.earlier
+    needed_before e f (inl at_node) = stands_by_place events rise e f at_node.first_exists at_node.before
     needed_before e f (inr sends) = first f e sends
 
     next_logged : (k : ℕ) → k < length events → MayComeNext events (take k logged) k

@@ -19,6 +19,7 @@ use Rattle.hlc_log.specs.Messages.{EachIsSentOnce, Sends, SendsTo}
 use Rattle.hlc_log.specs.OrderSkeleton.{index_in, position_of, rules_in, send_place, skeleton_event_in, skeleton_in}
 use Rattle.hlc_log.specs.Reordering.{SendsAreNamed}
 use Rattle.hlc_log.specs.Unsent.{is_send}
+use Rattle.hlc_log.proofs.StandingEvents.{stands_either_way}
 use Rattle.hlc_log.proofs.CausalOrders.{place_in_order, place_of_contained, places_differ}
 
 -- the position that a test finds
@@ -99,17 +100,18 @@ module _ (events : List LogEvent) where
     pub earlier_of : (i j : ℕ) → i < j → j < length order
         → (event_at events (place_at order i)).node.0 ≡ (event_at events (place_at order j)).node.0
         → IsEarlierOf events (place_at order i) (place_at order j)
-    earlier_of i j lt within same_node = elim (cases_order (place_at order i) (place_at order j)) [
-      | inl same ↦ absurd (places_differ events order whole.causal i j lt within same)
-      | inr differ ↦ elim differ [
-        | inl earlier ↦ record { earlier = earlier; exists = place_exists j within; same_node = same_node }
-        | inr later ↦
-            let other : IsEarlierOf events (place_at order j) (place_at order i) =
-            record { earlier = later; exists = place_exists i (omega arith); same_node = sym same_node } in
-            let before = needed_before j i within (omega arith) (inl other) in
-            absurd (omega arith)
-      ]
-    ]
+    earlier_of i j lt within same_node =
+        let e = place_at order i in
+        let f = place_at order j in
+        let e_exists = place_exists i (omega arith) in
+        let f_exists = place_exists j within in
+        elim (stands_either_way events e f (places_differ events order whole.causal i j lt within)) [
+          | inl earlier ↦ record { before = earlier; first_exists = e_exists; exists = f_exists; same_node = same_node }
+          | inr later ↦
+              let other : IsEarlierOf events f e = record { before = later; first_exists = f_exists; exists = e_exists; same_node = sym same_node } in
+              let before = needed_before j i within (omega arith) (inl other) in
+              absurd (omega arith)
+        ]
 
     pub position_of_place : (i : ℕ) → i < length order → position_of order (place_at order i) ≡ Some i
     position_of_place i lt =

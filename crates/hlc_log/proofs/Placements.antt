@@ -7,10 +7,12 @@ use Rattle.std.proofs.lemmas.List.Elements.{Contains-append_left, Contains-push,
 use Rattle.hlc_stamp.specs.declared.id.EventId.{EventId}
 use Rattle.hlc_log.specs.declared.log_event.LogEvent.{LogEvent}
 use Rattle.hlc_log.specs.CausalOrder.{IsCausalOrder, IsCausalPrefix, IsEarlierOf, MayComeNext, Needs, Waits, place_at}
-use Rattle.hlc_log.specs.Faults.{IsFirst}
+use Rattle.hlc_log.specs.Faults.{StandsFirst}
 use Rattle.hlc_log.specs.Messages.{HasNoSend, Receives, Sends}
 use Rattle.hlc_log.specs.Placing.{AreAllBlocked, AreNodesBelow, AreNodesLinked, ArePlaced, IsBefore, IsBlocked, IsFirstFrom, IsFirstFront, IsFrontOf, LinksToFirstFront, first_of, IsNodeBlocked, IsPassed, IsReady, LinksToFirst, LinksToFront, node_at}
 use Rattle.hlc_log.specs.SendLinks.{IsOnlySend, link_at}
+use Rattle.hlc_log.specs.Standing.{SeqsRise}
+use Rattle.hlc_log.proofs.StandingEvents.{place_stands, stands_by_place}
 use Rattle.hlc_log.proofs.CausalOrders.{causal-push, length-order-le, place_in_order, place_of_contained}
 use Rattle.hlc_log.proofs.SentMessages.{receives_one}
 
@@ -100,8 +102,9 @@ module _ (events : List LogEvent) where
   not_passed_first (Some g) f exists h passed = h.first f (omega arith) passed refl
 
   -- at first no event has its place
-  pub none_placed : (next fronts : List (Option EventId)) → AreNodesLinked events 0 next fronts → ArePlaced events next fronts []
-  none_placed next fronts h = record {
+  pub none_placed : (next fronts : List (Option EventId)) → SeqsRise events → AreNodesLinked events 0 next fronts → ArePlaced events next fronts []
+  none_placed next fronts rise h = record {
+    rise = rise;
     len = h.len;
     nodes = h.nodes;
     each_next = λ e exists. h.each_next e (omega arith) exists;
@@ -131,11 +134,12 @@ module _ (events : List LogEvent) where
       earlier_passed : (d : ℕ) → IsEarlierOf events d e.0 → IsPassed events fronts d
       earlier_passed d earlier =
           let front : link_at fronts (node_at events d) ≡ Some e = ap (link_at fronts) earlier.same_node ∙ at_front in
-          subst (λ (front : Option EventId). IsBefore front d) (sym front) earlier.earlier
+          subst (λ (front : Option EventId). IsBefore front d) (sym front)
+          (stands_by_place events h.rise d e.0 earlier.first_exists earlier.before)
 
       module _ (ready : IsReady events fronts e.0) where
         needed_passed : (d : ℕ) → Needs events e.0 d → (d < length events) × IsPassed events fronts d
-        needed_passed d (inl earlier) = (let a = earlier.earlier in let b = earlier.exists in omega arith, earlier_passed d earlier)
+        needed_passed d (inl earlier) = (earlier.first_exists, earlier_passed d earlier)
         needed_passed d (inr sends) = (sends.1.exists, ready d sends)
 
         pub front_may_come_next : MayComeNext events order e.0
@@ -176,6 +180,7 @@ module _ (events : List LogEvent) where
             let here : link_at (set fronts node link) node ≡ link = get_or-set_same fronts node link None lt in
             let size = length-set fronts node link in
             record {
+              rise = h.rise;
               len = h.len;
               nodes = λ f exists. let below = h.nodes f exists in omega arith;
               each_next = h.each_next;
@@ -252,7 +257,12 @@ module _ (events : List LogEvent) where
                         absurd (stuck.unplaced (before_at stuck.send (inr stuck.sends)))
                     | inr ne ↦
                         let earlier : IsEarlierOf events e.0 f =
-                        record { earlier = let le = found.2 in omega arith; exists = next.exists; same_node = front.at_node } in
+                        record {
+                          before = place_stands events h.rise e.0 f (let le = found.2 in omega arith) next.exists;
+                          first_exists = front.exists;
+                          exists = next.exists;
+                          same_node = front.at_node;
+                        } in
                         absurd (front_not_passed node e within found.1 (before_at e.0 (inl earlier)))
                   ]
             ]
@@ -273,12 +283,12 @@ module _ (events : List LogEvent) where
       }
 
       -- the first of the events at which nodes go on is the first that waits
-      pub first_front_waits : (first : EventId) → IsFirstFront fronts (length fronts) first → IsFirst (Waits events) first.0
+      pub first_front_waits : (first : EventId) → IsFirstFront fronts (length fronts) first → StandsFirst events (Waits events) first.0
       first_front_waits first is = record {
         has =
             let front = front_of is.node first is.exists is.at_node in
             unpassed_waits first.0 front.exists (front_not_passed is.node first is.exists is.at_node);
-        first = λ d lt waits.
+        first = λ d before waits.
             let node = node_at events d in
             let within = h.nodes d waits.exists in
             elim (passed_or_not (link_at fronts node) d) [
@@ -286,6 +296,7 @@ module _ (events : List LogEvent) where
               | inr found ↦
                   let least = is.none_earlier node found.0 within found.1 in
                   let le = found.2 in
+                  let lt = stands_by_place events h.rise d first.0 waits.exists before in
                   omega arith
             ];
       }

@@ -1,117 +1,167 @@
--- Events as slots hold them, with what their messages carried.
-use Rattle.std.proofs.Common.{◌≡◌, ◌∙◌, ℕ, zero, suc, ◌+◌, ◌-◌, ◌<◌, ◌≤◌, inl, inr, List, [], ◌∷◌, ◌++◌, length, length-append, Option, Some, None, arith, refl, replicate, set, sym, ap}
-use Rattle.std.specs.Prelude.{slice_index_or}
-use Rattle.std.proofs.lemmas.Bool.{cases_lt}
+-- Events as slots hold them, with what is told of them aside.
+use Rattle.std.proofs.Common.{◌≡◌, ◌∙◌, Bool, true, false, ℕ, zero, suc, ◌+◌, ◌-◌, ◌<◌, ◌≤◌, ◌==◌, inl, inr, List, [], ◌∷◌, ◌++◌, length, length-append, Option, Some, None, arith, refl, replicate, set, sym, ap}
+use Rattle.std.specs.Prelude.{is_some, not, slice_index_or}
+use Rattle.std.proofs.lemmas.Bool.{cases_lt, eqb-true, not-false}
 use Rattle.std.proofs.lemmas.List.{append_assoc, get_or-append_right, get_or-replicate, get_or_append_left, get_or_past, get_or_push, length-replicate}
 use Rattle.hlc_stamp.specs.Order.{Pair}
+use Rattle.hlc_log.specs.declared.asides.Aside.{Aside}
+use Rattle.hlc_log.specs.declared.asides.Asides.{Asides}
 use Rattle.hlc_log.specs.declared.log_event.LogEvent.{LogEvent}
 use Rattle.hlc_log.specs.declared.slot.Slot.{Slot}
-use Rattle.hlc_log.specs.Events.{event_at}
-use Rattle.hlc_log.specs.Slots.{carried_at, stored_event, stored_events, with_carried}
+use Rattle.hlc_log.specs.Events.{event_at, no_event}
+use Rattle.hlc_log.specs.Slots.{aside_at, carried_at, kept_seq_at, put_told, stored_event, stored_events, stored_from, with_carried, with_seq}
+use Rattle.hlc_log.specs.Standing.{seq_at}
 
-pub stored_size : (carried : List (Option Pair)) (slots : List Slot) → length (stored_events carried slots) ≡ length slots
-stored_size carried [] = refl
-stored_size [] (slot ∷ slots) = ap suc (stored_size [] slots)
-stored_size (stamp ∷ carried) (slot ∷ slots) = ap suc (stored_size carried slots)
+module _ (asides : Asides) where
+  from_size : (place : ℕ) (slots : List Slot) → length (stored_from asides place slots) ≡ length slots
+  from_size place [] = refl
+  from_size place (slot ∷ slots) = ap suc (from_size (place + 1) slots)
 
--- an event is its slot's, with what is kept of its message
-pub stored_at : (carried : List (Option Pair)) (slots : List Slot) (e : ℕ) (none : Slot) → e < length slots
-    → event_at (stored_events carried slots) e ≡ stored_event (carried_at carried e) (slice_index_or slots e none)
-stored_at carried [] e none lt = absurd (omega (arith, lt))
-stored_at [] (slot ∷ slots) zero none lt = refl
-stored_at [] (slot ∷ slots) (suc e) none lt = stored_at [] slots e none (omega (arith, lt))
-stored_at (stamp ∷ carried) (slot ∷ slots) zero none lt = refl
-stored_at (stamp ∷ carried) (slot ∷ slots) (suc e) none lt = stored_at carried slots e none (omega (arith, lt))
+  -- an event is its slot's, with what is kept of it
+  from_at : (place : ℕ) (slots : List Slot) (e at : ℕ) (none : Slot) → e < length slots → at ≡ place + e
+      → event_at (stored_from asides place slots) e ≡ stored_event (aside_at asides at) (slice_index_or slots e none)
+  from_at place [] e at none lt is = absurd (omega (arith, lt))
+  from_at place (slot ∷ slots) zero at none lt is =
+      let same : place ≡ at = omega (arith, is) in ap (λ (n : ℕ). stored_event (aside_at asides n) slot) same
+  from_at place (slot ∷ slots) (suc e) at none lt is = from_at (place + 1) slots e at none (omega (arith, lt)) (omega (arith, is))
 
-pub kept_at : (carried : List (Option Pair)) (slots : List Slot) (e : ℕ) (none : Slot) → e < length slots
-    → carried_at carried e ≡ (event_at (stored_events carried slots) e).carried
-kept_at carried slots e none lt = sym (ap (λ (event : LogEvent). event.carried) (stored_at carried slots e none lt))
+  from_push : (place : ℕ) (slots : List Slot) (slot : Slot) (at : ℕ) → at ≡ place + length slots
+      → stored_from asides place (slots ++ slot ∷ []) ≡ stored_from asides place slots ++ stored_event (aside_at asides at) slot ∷ []
+  from_push place [] slot at is =
+      let same : place ≡ at = omega (arith, is) in ap (λ (n : ℕ). stored_event (aside_at asides n) slot ∷ []) same
+  from_push place (other ∷ slots) slot at is =
+      ap (λ (events : List LogEvent). stored_event (aside_at asides place) other ∷ events) (from_push (place + 1) slots slot at (omega (arith, is)))
 
-pub carried_is : (carried : List (Option Pair)) (slots : List Slot) (e : ℕ) → e < length slots
-    → carried_at carried e ≡ (event_at (stored_events carried slots) e).carried
-carried_is carried [] e lt = absurd (omega (arith, lt))
-carried_is carried (slot ∷ slots) e lt = kept_at carried (slot ∷ slots) e slot lt
+  from_set : (place : ℕ) (slots : List Slot) (k at : ℕ) (slot : Slot) → at ≡ place + k
+      → stored_from asides place (set slots k slot) ≡ set (stored_from asides place slots) k (stored_event (aside_at asides at) slot)
+  from_set place [] k at slot is = refl
+  from_set place (other ∷ slots) zero at slot is =
+      let same : place ≡ at = omega (arith, is) in
+      ap (λ (n : ℕ). stored_event (aside_at asides n) slot ∷ stored_from asides (place + 1) slots) same
+  from_set place (other ∷ slots) (suc k) at slot is =
+      ap (λ (events : List LogEvent). stored_event (aside_at asides place) other ∷ events) (from_set (place + 1) slots k at slot (omega (arith, is)))
 
-pub stored_push : (carried : List (Option Pair)) (slots : List Slot) (slot : Slot)
-    → stored_events carried (slots ++ slot ∷ []) ≡ stored_events carried slots ++ stored_event (carried_at carried (length slots)) slot ∷ []
-stored_push [] [] slot = refl
-stored_push (stamp ∷ carried) [] slot = refl
-stored_push [] (other ∷ slots) slot = ap (λ (events : List LogEvent). stored_event None other ∷ events) (stored_push [] slots slot)
-stored_push (stamp ∷ carried) (other ∷ slots) slot = ap (λ (events : List LogEvent). stored_event stamp other ∷ events) (stored_push carried slots slot)
+  pub stored_size : (slots : List Slot) → length (stored_events asides slots) ≡ length slots
+  stored_size slots = from_size 0 slots
 
-pub stored_set : (carried : List (Option Pair)) (slots : List Slot) (place : ℕ) (slot : Slot)
-    → stored_events carried (set slots place slot) ≡ set (stored_events carried slots) place (stored_event (carried_at carried place) slot)
-stored_set carried [] place slot = refl
-stored_set [] (other ∷ slots) zero slot = refl
-stored_set (stamp ∷ carried) (other ∷ slots) zero slot = refl
-stored_set [] (other ∷ slots) (suc place) slot = ap (λ (events : List LogEvent). stored_event None other ∷ events) (stored_set [] slots place slot)
-stored_set (stamp ∷ carried) (other ∷ slots) (suc place) slot =
-    ap (λ (events : List LogEvent). stored_event stamp other ∷ events) (stored_set carried slots place slot)
+  pub stored_at : (slots : List Slot) (e : ℕ) (none : Slot) → e < length slots
+      → event_at (stored_events asides slots) e ≡ stored_event (aside_at asides e) (slice_index_or slots e none)
+  stored_at slots e none lt = from_at 0 slots e e none lt (omega arith)
 
--- where nothing is kept, no event tells what its message carried
-pub none_carried : (slots : List Slot) (e : ℕ) → (event_at (stored_events [] slots) e).carried ≡ None
-none_carried [] e = refl
-none_carried (slot ∷ slots) zero = refl
-none_carried (slot ∷ slots) (suc e) = none_carried slots e
+  -- so what is told of it aside is what is kept
+  pub aside_kept : {X : Type 0} (told : LogEvent → X) (kept : Aside → X) → ((aside : Aside) (slot : Slot) → told (stored_event aside slot) ≡ kept aside)
+      → (slots : List Slot) (e : ℕ) → e < length slots → kept (aside_at asides e) ≡ told (event_at (stored_events asides slots) e)
+  aside_kept told kept is [] e lt = absurd (omega (arith, lt))
+  aside_kept told kept is (slot ∷ slots) e lt =
+      sym (ap told (stored_at (slot ∷ slots) e slot lt) ∙ is (aside_at asides e) (slice_index_or (slot ∷ slots) e slot))
+
+  pub stored_push : (slots : List Slot) (slot : Slot)
+      → stored_events asides (slots ++ slot ∷ []) ≡ stored_events asides slots ++ stored_event (aside_at asides (length slots)) slot ∷ []
+  stored_push slots slot = from_push 0 slots slot (length slots) (omega arith)
+
+  pub stored_set : (slots : List Slot) (place : ℕ) (slot : Slot)
+      → stored_events asides (set slots place slot) ≡ set (stored_events asides slots) place (stored_event (aside_at asides place) slot)
+  stored_set slots place slot = from_set 0 slots place place slot (omega arith)
+
+  -- where nothing is kept, nothing is told
+  pub none_carried : asides.carried.items ≡ [] → (slots : List Slot) (e : ℕ) → (event_at (stored_events asides slots) e).carried ≡ None
+  none_carried none slots e = elim (cases_lt e (length slots)) [
+    | inl lt ↦
+        sym (aside_kept (λ event. event.carried) (λ aside. aside.carried) (λ aside slot. refl) slots e lt)
+        ∙ ap (λ (kept : List (Option Pair)). carried_at kept e) none
+    | inr past ↦ ap (λ (event : LogEvent). event.carried) (get_or_past (stored_events asides slots) e no_event (omega (arith, past, stored_size slots)))
+  ]
+
+  pub none_has_seq : asides.seqs.items ≡ [] → (slots : List Slot) (e : ℕ) → seq_at (stored_events asides slots) e ≡ 0
+  none_has_seq none slots e = elim (cases_lt e (length slots)) [
+    | inl lt ↦
+        sym (aside_kept (λ event. event.seq) (λ aside. aside.seq) (λ aside slot. refl) slots e lt)
+        ∙ ap (λ (kept : List ℕ). kept_seq_at kept e) none
+    | inr past ↦ ap (λ (event : LogEvent). event.seq) (get_or_past (stored_events asides slots) e no_event (omega (arith, past, stored_size slots)))
+  ]
 
 -- only what is kept at the places of events matters
-pub same_stored : (carried others : List (Option Pair)) (slots : List Slot) → ((e : ℕ) → e < length slots → carried_at carried e ≡ carried_at others e)
-    → stored_events carried slots ≡ stored_events others slots
-same_stored carried others [] same = refl
-same_stored [] [] (slot ∷ slots) same = refl
-same_stored [] (stamp ∷ others) (slot ∷ slots) same =
-    ap (λ (o : Option Pair). stored_event o slot ∷ stored_events [] slots) (same 0 (omega arith))
-    ∙ ap (λ (events : List LogEvent). stored_event stamp slot ∷ events) (same_stored [] others slots (λ e lt. same (suc e) (omega (arith, lt))))
-same_stored (stamp ∷ carried) [] (slot ∷ slots) same =
-    ap (λ (o : Option Pair). stored_event o slot ∷ stored_events carried slots) (same 0 (omega arith))
-    ∙ ap (λ (events : List LogEvent). stored_event None slot ∷ events) (same_stored carried [] slots (λ e lt. same (suc e) (omega (arith, lt))))
-same_stored (stamp ∷ carried) (other ∷ others) (slot ∷ slots) same =
-    ap (λ (o : Option Pair). stored_event o slot ∷ stored_events carried slots) (same 0 (omega arith))
-    ∙ ap (λ (events : List LogEvent). stored_event other slot ∷ events) (same_stored carried others slots (λ e lt. same (suc e) (omega (arith, lt))))
+same_from : (asides others : Asides) (place : ℕ) (slots : List Slot)
+    → ((e : ℕ) → e < place + length slots → aside_at asides e ≡ aside_at others e) → stored_from asides place slots ≡ stored_from others place slots
+same_from asides others place [] same = refl
+same_from asides others place (slot ∷ slots) same =
+    ap (λ (aside : Aside). stored_event aside slot ∷ stored_from asides (place + 1) slots) (same place (omega arith))
+    ∙ ap (λ (events : List LogEvent). stored_event (aside_at others place) slot ∷ events)
+    (same_from asides others (place + 1) slots (λ e lt. same e (omega (arith, lt))))
 
--- what one more event's message carried changes nothing before it
-module _ (carried : List (Option Pair)) (place : ℕ) (none : length carried ≤ place) where
-  abbrev before : List (Option Pair)
-  before = carried ++ replicate (place - length carried) None
+pub same_stored : (asides others : Asides) (slots : List Slot) → ((e : ℕ) → e < length slots → aside_at asides e ≡ aside_at others e)
+    → stored_events asides slots ≡ stored_events others slots
+same_stored asides others slots same = same_from asides others 0 slots (λ e lt. same e (omega (arith, lt)))
 
-  given_is : (stamp : Pair) → with_carried carried place (Some stamp) ≡ before ++ Some stamp ∷ []
-  given_is stamp = sym (append_assoc carried (replicate (place - length carried) None) (Some stamp ∷ []))
+-- what one more item changes nothing before it
+module _ {A : Type 0} (nothing : A) (items : List A) (place : ℕ) (none : length items ≤ place) where
+  abbrev before : List A
+  before = items ++ replicate (place - length items) nothing
+
+  put_is : (item : A) → put_told true nothing items place item ≡ before ++ item ∷ []
+  put_is item = sym (append_assoc items (replicate (place - length items) nothing) (item ∷ []))
 
   before_size : length before ≡ place
   before_size =
-      let without = place - length carried in
-      omega (arith, none, length-replicate {A = Option Pair} without None, length-append carried (replicate without None))
+      let without = place - length items in
+      omega (arith, none, length-replicate {A = A} without nothing, length-append items (replicate without nothing))
 
-  none_among : (k : ℕ) → length carried ≤ k → k < place → carried_at before k ≡ None
+  none_among : (k : ℕ) → length items ≤ k → k < place → slice_index_or before k nothing ≡ nothing
   none_among k past lt =
-      get_or-append_right carried (replicate (place - length carried) None) (length carried) k None refl past
-      ∙ get_or-replicate {A = Option Pair} (place - length carried) (k - length carried) None None (omega (arith, past, lt))
+      get_or-append_right items (replicate (place - length items) nothing) (length items) k nothing refl past
+      ∙ get_or-replicate {A = A} (place - length items) (k - length items) nothing nothing (omega (arith, past, lt))
 
-  pub carried_given : (stamp : Option Pair) → carried_at (with_carried carried place stamp) place ≡ stamp
-  carried_given None = get_or_past carried place None none
-  carried_given (Some stamp) = ap (λ (kept : List (Option Pair)). carried_at kept place) (given_is stamp) ∙ get_or_push before (Some stamp) None place before_size
+  pub put_given : (is_told : Bool) (item : A) → (is_told ≡ false → item ≡ nothing)
+      → slice_index_or (put_told is_told nothing items place item) place nothing ≡ item
+  put_given false item blank = get_or_past items place nothing none ∙ sym (blank refl)
+  put_given true item blank =
+      ap (λ (kept : List A). slice_index_or kept place nothing) (put_is item) ∙ get_or_push before item nothing place before_size
 
-  pub carried_before : (stamp : Option Pair) (k : ℕ) → k < place → carried_at (with_carried carried place stamp) k ≡ carried_at carried k
-  carried_before None k lt = refl
-  carried_before (Some stamp) k lt =
-      let first = ap (λ (kept : List (Option Pair)). carried_at kept k) (given_is stamp)
-      ∙ get_or_append_left before (Some stamp ∷ []) None k (omega (arith, before_size, lt)) in
-      elim (cases_lt k (length carried)) [
-        | inr past ↦ first ∙ none_among k past lt ∙ sym (get_or_past carried k None past)
-        | inl here ↦ first ∙ get_or_append_left carried (replicate (place - length carried) None) None k here
+  pub put_before : (is_told : Bool) (item : A) (k : ℕ) → k < place
+      → slice_index_or (put_told is_told nothing items place item) k nothing ≡ slice_index_or items k nothing
+  put_before false item k lt = refl
+  put_before true item k lt =
+      let first = ap (λ (kept : List A). slice_index_or kept k nothing) (put_is item)
+      ∙ get_or_append_left before (item ∷ []) nothing k (omega (arith, before_size, lt)) in
+      elim (cases_lt k (length items)) [
+        | inr past ↦ first ∙ none_among k past lt ∙ sym (get_or_past items k nothing past)
+        | inl here ↦ first ∙ get_or_append_left items (replicate (place - length items) nothing) nothing k here
       ]
 
-  pub carried_size : (stamp : Option Pair) → length (with_carried carried place stamp) ≤ place + 1
-  carried_size None = omega (arith, none)
-  carried_size (Some stamp) =
-      omega (arith, before_size, ap (λ (kept : List (Option Pair)). length kept) (given_is stamp), length-append before (Some stamp ∷ []))
+  pub put_size : (is_told : Bool) (item : A) → length (put_told is_told nothing items place item) ≤ place + 1
+  put_size false item = omega (arith, none)
+  put_size true item =
+      omega (arith, before_size, ap (λ (kept : List A). length kept) (put_is item), length-append before (item ∷ []))
 
--- one more event with what its message carried
-pub stored_with : (carried : List (Option Pair)) (slots : List Slot) (slot : Slot) (stamp : Option Pair) → length carried ≤ length slots
-    → stored_events (with_carried carried (length slots) stamp) (slots ++ slot ∷ []) ≡ stored_events carried slots ++ stored_event stamp slot ∷ []
-stored_with carried slots slot stamp none =
-    let kept = with_carried carried (length slots) stamp in
-    stored_push kept slots slot
-    ∙ ap (λ (events : List LogEvent). events ++ stored_event (carried_at kept (length slots)) slot ∷ [])
-    (same_stored kept carried slots (carried_before carried (length slots) none stamp))
-    ∙ ap (λ (o : Option Pair). stored_events carried slots ++ stored_event o slot ∷ []) (carried_given carried (length slots) none stamp)
+untold_is_none : (stamp : Option Pair) → is_some stamp ≡ false → stamp ≡ None
+untold_is_none None is = refl
+untold_is_none (Some stamp) is = absurd cc
+
+zero_untold : (seq : ℕ) → not (seq == 0) ≡ false → seq ≡ 0
+zero_untold seq is = eqb-true seq 0 (not-false (seq == 0) is)
+
+same_aside : (a b : Aside) → a.carried ≡ b.carried → a.seq ≡ b.seq → a ≡ b
+same_aside a b carried seq = λ i. record { carried = carried i; seq = seq i }
+
+-- one more event with what is told of it
+pub stored_with : (asides others : Asides) (slots : List Slot) (slot : Slot) (aside : Aside)
+    → length asides.carried.items ≤ length slots → length asides.seqs.items ≤ length slots
+    → others.carried.items ≡ with_carried asides.carried.items (length slots) aside.carried
+    → others.seqs.items ≡ with_seq asides.seqs.items (length slots) aside.seq
+    → stored_events others (slots ++ slot ∷ []) ≡ stored_events asides slots ++ stored_event aside slot ∷ []
+stored_with asides others slots slot aside few_carried few_seqs carried seqs =
+    let n = length slots in
+    let kept = asides.carried.items in
+    let old = asides.seqs.items in
+    let before : (k : ℕ) → k < n → aside_at others k ≡ aside_at asides k = λ k lt.
+    same_aside (aside_at others k) (aside_at asides k)
+    (ap (λ (xs : List (Option Pair)). carried_at xs k) carried ∙ put_before None kept n few_carried (is_some aside.carried) aside.carried k lt)
+    (ap (λ (xs : List ℕ). kept_seq_at xs k) seqs ∙ put_before 0 old n few_seqs (not (aside.seq == 0)) aside.seq k lt) in
+    let given : aside_at others n ≡ aside =
+    same_aside (aside_at others n) aside
+    (ap (λ (xs : List (Option Pair)). carried_at xs n) carried
+    ∙ put_given None kept n few_carried (is_some aside.carried) aside.carried (untold_is_none aside.carried))
+    (ap (λ (xs : List ℕ). kept_seq_at xs n) seqs ∙ put_given 0 old n few_seqs (not (aside.seq == 0)) aside.seq (zero_untold aside.seq)) in
+    stored_push others slots slot
+    ∙ ap (λ (events : List LogEvent). events ++ stored_event (aside_at others n) slot ∷ []) (same_stored others asides slots before)
+    ∙ ap (λ (a : Aside). stored_events asides slots ++ stored_event a slot ∷ []) given

@@ -1,11 +1,12 @@
 -- Events that receive messages which no event sends, taken one by one.
-use Rattle.std.proofs.Common.{◌≡◌, ◌≢◌, ℕ, ◌+◌, ◌<◌, ◌≤◌, inl, inr, Bool, true, false, List, [], ◌∷◌, count_by, length, map, set, Option, Some, None, arith, refl, subst, sym, ap, ◌∙◌}
+use Rattle.std.proofs.Common.{◌≡◌, ◌≢◌, ℕ, suc, ◌+◌, ◌<◌, ◌≤◌, inl, inr, Bool, true, false, List, [], ◌∷◌, count_by, length, map, set, Option, Some, None, arith, refl, subst, sym, ap, ◌∙◌}
 use Rattle.std.specs.Prelude.{All, if◌then◌else◌, is_some, not}
 use Rattle.std.proofs.lemmas.Bool.{cases_eq, not-false}
 use Rattle.std.proofs.lemmas.List.{ext_get_or, get_or-map, get_or_default, get_or-set_other, get_or-set_same, length-map}
 use Rattle.std.proofs.lemmas.List.Elements.{All-map, All-weaker}
 use Rattle.std.proofs.lemmas.List.Folds.{Any-from_list_any}
 use Rattle.hlc_stamp.specs.Order.{Pair}
+use Rattle.hlc_log.specs.declared.asides.Aside.{Aside}
 use Rattle.hlc_log.specs.declared.log_event.LogEvent.{LogEvent}
 use Rattle.hlc_log.specs.declared.log_event.LogKind.{LogKind}
 use Rattle.hlc_log.specs.declared.log_event.LogKind.TheVariants.{Local, Outside, Receive, Restart, Send}
@@ -15,7 +16,7 @@ use Rattle.hlc_log.specs.declared.slot.Role.TheVariants as role
 use Rattle.hlc_log.specs.declared.slot.Slot.{Slot}
 use Rattle.hlc_log.specs.Events.{IsInRange, IsMessageBelow, IsNumbered, event_at, no_event}
 use Rattle.hlc_log.specs.Messages.{ReceivesUnsent, Sends}
-use Rattle.hlc_log.specs.Slots.{kind_by, stored_event, stored_events}
+use Rattle.hlc_log.specs.Slots.{kind_by, stored_event}
 use Rattle.hlc_log.specs.Unsent.{AreSentMarks, is_outside, is_send, is_sent, is_unmarked, is_unsent, is_untold, outside_count, taken_event, taken_kind, with_unsent}
 use Rattle.hlc_log.proofs.OrderSkeletons.{sends_if}
 
@@ -44,28 +45,28 @@ receive_role role.Restart message m is = absurd cc
 receive_role role.Outside message m is = absurd cc
 
 -- an event whose slot is changed exactly if it is unsent
-module _ (as_local : Bool) (events : List LogEvent) (carried : Option Pair) (old new : Slot) (becomes : Role)
-    (kind : (m : MessageId) → kind_by becomes m ≡ taken_kind as_local carried (Receive m)) where
+module _ (as_local : Bool) (events : List LogEvent) (aside : Aside) (old new : Slot) (becomes : Role)
+    (kind : (m : MessageId) → kind_by becomes m ≡ taken_kind as_local aside.carried (Receive m)) where
   kind_becomes : is_unsent events (kind_by old.role old.message) ≡ true
-      → kind_by becomes old.message ≡ taken_kind as_local carried (kind_by old.role old.message)
+      → kind_by becomes old.message ≡ taken_kind as_local aside.carried (kind_by old.role old.message)
   kind_becomes unsent =
       let (m, is) = unsent_receives events (kind_by old.role old.message) unsent in
-      kind old.message ∙ ap (λ (k : MessageId). taken_kind as_local carried (Receive k)) (receive_role old.role old.message m is)
-      ∙ ap (taken_kind as_local carried) (sym is)
+      kind old.message ∙ ap (λ (k : MessageId). taken_kind as_local aside.carried (Receive k)) (receive_role old.role old.message m is)
+      ∙ ap (taken_kind as_local aside.carried) (sym is)
 
   by_test : (test : Bool) → is_unsent events (kind_by old.role old.message) ≡ test → (test ≡ true → new ≡ record old { role = becomes }) → (test ≡ false → new ≡ old)
-      → stored_event carried new
-      ≡ (if test then record (stored_event carried old) { kind = taken_kind as_local carried (kind_by old.role old.message) } else stored_event carried old)
+      → stored_event aside new
+      ≡ (if test then record (stored_event aside old) { kind = taken_kind as_local aside.carried (kind_by old.role old.message) } else stored_event aside old)
   by_test true is taken left =
-      ap (stored_event carried) (taken refl) ∙ ap (λ (k : LogKind). record (stored_event carried old) { kind = k }) (kind_becomes is)
-  by_test false is taken left = ap (stored_event carried) (left refl)
+      ap (stored_event aside) (taken refl) ∙ ap (λ (k : LogKind). record (stored_event aside old) { kind = k }) (kind_becomes is)
+  by_test false is taken left = ap (stored_event aside) (left refl)
 
   pub taken_slot : (test : Bool) → test ≡ is_unsent events (kind_by old.role old.message)
       → (test ≡ true → new ≡ record old { role = becomes }) → (test ≡ false → new ≡ old)
-      → stored_event carried new ≡ taken_event as_local events (stored_event carried old)
+      → stored_event aside new ≡ taken_event as_local events (stored_event aside old)
   taken_slot test is taken left =
-      subst (λ (t : Bool). stored_event carried new
-      ≡ (if t then record (stored_event carried old) { kind = taken_kind as_local carried (kind_by old.role old.message) } else stored_event carried old)) is
+      subst (λ (t : Bool). stored_event aside new
+      ≡ (if t then record (stored_event aside old) { kind = taken_kind as_local aside.carried (kind_by old.role old.message) } else stored_event aside old)) is
       (by_test test (sym is) taken left)
 
 -- one event more is changed
@@ -190,12 +191,12 @@ module _ (events : List LogEvent) (untold : (e : ℕ) → (event_at events e).ca
   nothing_taken = all_taken (taken_event false events) events events refl (λ k lt.
       sym (nothing_changes (event_at events k) (is_unsent events (event_at events k).kind) (untold k)))
 
-pub none_outside : (slots : List Slot) → outside_count (stored_events [] slots) ≡ 0
-none_outside slots = count (stored_events [] slots) slots
-  where
-    count : (events : List LogEvent) (slots : List Slot) → count_by (is_outside events) (stored_events [] slots) ≡ 0
-    count events [] = refl
-    count events (slot ∷ slots) = count events slots
+  pub none_outside : outside_count events ≡ 0
+  none_outside = none_counted (is_outside events) events (λ e. ap (λ (o : Option Pair). if is_some o then is_unsent events (event_at events e).kind else false) (untold e))
+    where
+      none_counted : (p : LogEvent → Bool) (xs : List LogEvent) → ((e : ℕ) → p (event_at xs e) ≡ false) → count_by p xs ≡ 0
+      none_counted p [] each = refl
+      none_counted p (x ∷ xs) each = let here : p x ≡ false = each 0 in rw here (none_counted p xs (λ e. each (suc e)))
 
 -- whether an event tells what its message carried, and whether it is unsent, says which count it is in
 pub outside_if : (events : List LogEvent) (event : LogEvent) (told unsent : Bool) → told ≡ is_some event.carried → unsent ≡ is_unsent events event.kind

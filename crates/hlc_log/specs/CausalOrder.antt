@@ -3,14 +3,16 @@ use Rattle.std.specs.Prelude.{◌≡◌, ℕ, ◌<◌, ◌⊎◌, Contains, List
 use Rattle.hlc_log.specs.declared.log_event.LogEvent.{LogEvent}
 use Rattle.hlc_log.specs.Events.{event_at}
 use Rattle.hlc_log.specs.Messages.{SendsTo}
+use Rattle.hlc_log.specs.Standing.{StandsBefore}
 
 -- the place that stands at k in an order
 abbrev pub place_at : List ℕ → ℕ → ℕ
 place_at order k = slice_index_or order k 0
 
--- the log tells of e before f, at the same node
+-- e and f are of the same node, and e stands before f
 pub record IsEarlierOf (events : List LogEvent) (e f : ℕ) : Type 0 where
-  pub earlier : e < f
+  pub before : StandsBefore events e f
+  pub first_exists : e < length events
   pub exists : f < length events
   pub same_node : (event_at events e).node.0 ≡ (event_at events f).node.0
 

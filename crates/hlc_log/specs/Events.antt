@@ -15,7 +15,7 @@ use Rattle.hlc_log.specs.declared.log_event.LogKind.TheVariants.{Local, Outside,
 
 -- what event_at answers past the end
 abbrev pub no_event : LogEvent
-no_event = record { node = record { 0 = 0 }; reading = 0; has_reading = true; kind = Local; stamp = zero_pair; has_stamp = true; carried = None; line = 0 }
+no_event = record { node = record { 0 = 0 }; reading = 0; has_reading = true; kind = Local; stamp = zero_pair; has_stamp = true; carried = None; seq = 0; line = 0 }
 
 -- the event at a place
 abbrev pub event_at : List LogEvent → ℕ → LogEvent

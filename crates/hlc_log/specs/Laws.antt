@@ -15,7 +15,7 @@ use Rattle.hlc_log.specs.declared.log_event.LogEvent.{LogEvent}
 use Rattle.hlc_log.specs.declared.message_id.MessageId.{MessageId}
 use Rattle.hlc_log.specs.declared.order_fault.OrderFault.{OrderFault}
 use Rattle.hlc_log.specs.declared.order_fault.OrderFault.TheVariants.{Memory}
-use Rattle.hlc_log.specs.CausalOrder.{IsCausalOrder, place_at}
+use Rattle.hlc_log.specs.CausalOrder.{IsCausalOrder, Needs, Waits, place_at}
 use Rattle.hlc_log.specs.Faults.{IsFaultOf}
 use Rattle.hlc_log.specs.Messages.{AreMessagesSound, EachIsSentOnce}
 use Rattle.hlc_log.specs.OrderSkeleton.{rules_in, skeleton_in}
@@ -26,6 +26,10 @@ use Rattle.hlc_log.specs.Reordering.{HaveEqualPairs, IsClockReordering, IsReorde
 abbrev pub FaultsLeaveNoOrder : Type 0
 FaultsLeaveNoOrder = (events : List LogEvent) (fault : OrderFault) → IsFaultOf events fault → ¬ (fault ≡ Memory) → AreMessagesSound events →
     (order : List ℕ) → ¬ IsCausalOrder events order
+
+-- an event that can't happen before one that waits waits too: the later ones of its node, and those that receive what it sends
+abbrev pub WaitingIsPassedOn : Type 0
+WaitingIsPassedOn = (events : List LogEvent) (e f : ℕ) → Waits events e → f < length events → Needs events f e → Waits events f
 
 -- where no event has the message of that number, telling messages apart changes nothing
 abbrev pub NamedMessagesStay : Type 0

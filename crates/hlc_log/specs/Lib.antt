@@ -3,8 +3,10 @@ pub mod Events
 pub mod Faults
 pub mod Laws
 pub mod Log
+pub mod MessageFaults
 pub mod Messages
 pub mod OrderSkeleton
+pub mod Parted
 pub mod Placing
 pub mod ReceiveLinks
 pub mod Reordering
@@ -12,5 +14,7 @@ pub mod Resent
 pub mod SendLinks
 pub mod Senders
 pub mod Slots
+pub mod Standing
+pub mod StandingOrder
 pub mod Turns
 pub mod Unsent

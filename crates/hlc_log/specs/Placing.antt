@@ -10,6 +10,7 @@ use Rattle.hlc_log.specs.CausalOrder.{IsCausalPrefix}
 use Rattle.hlc_log.specs.Events.{event_at}
 use Rattle.hlc_log.specs.Messages.{SendsTo}
 use Rattle.hlc_log.specs.SendLinks.{link_at}
+use Rattle.hlc_log.specs.Standing.{SeqsRise}
 use Rattle.hlc_log.specs.Turns.{HasTurn}
 
 -- the node of the event at a place
@@ -60,6 +61,7 @@ LinksToFront events node (Some e) = IsFrontOf events node e.0
 
 -- what is true while events get their places: the order is causal, and has exactly the events that were passed
 pub record ArePlaced (events : List LogEvent) (next fronts : List (Option EventId)) (order : List ℕ) : Type 0 where
+  pub rise : SeqsRise events
   pub len : length next ≡ length events
   pub nodes : AreNodesBelow events (length fronts)
   pub each_next : (e : ℕ) → e < length events → LinksToFirst events (e + 1) (node_at events e) (link_at next e)

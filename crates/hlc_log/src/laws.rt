@@ -1,11 +1,16 @@
 //! The laws of causal orders, as contracts of functions that do nothing.
 
-ghost use Rattle.hlc_log.specs.Laws.{CausalOrdersAgree, ClockReorderingKeepsChains, ClockReorderingKeepsLeast, FaultsLeaveNoOrder, NamedMessagesStay, ReorderedLogsAgree, ReorderingKeepsChains, ReorderingKeepsFurthestAhead, ReorderingKeepsHappenedBefore, ReorderingKeepsLeast, RulesAreReordered};
+ghost use Rattle.hlc_log.specs.Laws.{CausalOrdersAgree, ClockReorderingKeepsChains, ClockReorderingKeepsLeast, FaultsLeaveNoOrder, NamedMessagesStay, ReorderedLogsAgree, ReorderingKeepsChains, ReorderingKeepsFurthestAhead, ReorderingKeepsHappenedBefore, ReorderingKeepsLeast, RulesAreReordered, WaitingIsPassedOn};
 
 /// `causal_order` answers a fault only if it must: a log of which a fault other than Memory is true has no causal order in
 /// which each message is sent once, and before it is received.
 pub fn faults_leave_no_order()
     ensures { FaultsLeaveNoOrder }
+{}
+
+/// Where events that wait are left out, so is all that needs one of them: what they send, no event that is kept receives.
+pub fn waiting_is_passed_on()
+    ensures { WaitingIsPassedOn }
 {}
 
 /// What happened before what, and each event's least stamp, don't depend on the order in which events are listed, as long as

@@ -1,10 +1,13 @@
 ghost use Rattle.std.specs.Prelude.{◌≡◌, ℕ, ◌<◌, ◌≤◌, ◌↔◌, [], ◌∷◌, ◌++◌, All, IfOk, IfSome, IsNone, IsTrue, None, OnErr, OnOk, false, length, slice_set};
+ghost use Rattle.hlc_stamp.specs.Ids.{places_of};
 ghost use Rattle.hlc_log.specs.Events.{IsInRange, IsNumbered, event_at, of_kind, with_stamp};
 ghost use Rattle.hlc_log.specs.Messages.{ReceivesUnsent};
-ghost use Rattle.hlc_log.specs.Slots.{stored_event};
+ghost use Rattle.hlc_log.specs.Slots.{aside_of, stored_event};
+ghost use Rattle.hlc_log.specs.Standing.{seq_at};
+ghost use Rattle.hlc_log.specs.StandingOrder.{arranged};
 ghost use Rattle.hlc_log.specs.Unsent.{local_count, outside_count, with_unsent};
 
-use crate::carried::Carried;
+use crate::asides::{Aside, Asides};
 use crate::log_event::{LogEvent, LogKind};
 use crate::slot::Slot;
 use crate::unsent::{sent_messages, take_unmarked};
@@ -17,11 +20,11 @@ use std::marker::Model;
 /// The events of another system's log, in the order of its lines; seen as a list of them.
 ///
 /// It takes 32 bytes for each event, and no event moves when more come. If the log tells what messages carried, it takes 24 bytes more for each
-/// event up to the last one of which that is told.
+/// event up to the last one of which that is told; and so 8 if it tells seqs.
 #[derive(Drop)]
 pub struct Log {
     slots: Pages<Slot>,
-    carried: Carried,
+    asides: Asides,
 }
 
 impl Model for Log {
@@ -31,9 +34,9 @@ impl Model for Log {
 
     ghost use Rattle.hlc_log.specs.Slots.{AreSlots, stored_log};
 
-    ghost view = { λ log. stored_log log.carried log.slots.items };
+    ghost view = { λ log. stored_log log.asides log.slots.items };
 
-    ghost invariant = { λ log. AreSlots log.carried log.slots.items };
+    ghost invariant = { λ log. AreSlots log.asides log.slots.items };
 }
 
 impl Log {
@@ -43,7 +46,7 @@ impl Log {
     {
         Log {
             slots: Pages::new(alloc),
-            carried: Carried::new(alloc),
+            asides: Asides::new(alloc),
         }
     }
 
@@ -54,7 +57,7 @@ impl Log {
         ensures unchanged { OnErr result (self.new.events ≡ self.old.events) }
     {
         self.slots.reserve()?;
-        self.carried.put(self.slots.len(), event.carried)?;
+        self.asides.put(self.slots.len(), Aside::of(event))?;
         self.slots.push_reserved(Slot::new(event));
         Ok(())
     }
@@ -80,7 +83,7 @@ impl Log {
         ensures event { IfSome result (λ event. event ≡ event_at self.now.events place.0) }
     {
         let slot = self.slots.get(place.0 as usize)?;
-        Some(slot.event(self.carried.at(place.0 as usize)))
+        Some(slot.event(self.asides.at(place.0 as usize)))
     }
 
     /// The event at a place.
@@ -89,7 +92,7 @@ impl Log {
         requires { place.0 < length self.now.events }
         ensures { result ≡ event_at self.now.events place.0 }
     {
-        self.slot(place).event(self.carried.at(place.0 as usize))
+        self.slot(place).event(self.asides.at(place.0 as usize))
     }
 
     /// Where the event at a place happened.
@@ -143,14 +146,43 @@ impl Log {
         requires { place.0 < length self.now.events }
         ensures { result ≡ (event_at self.now.events place.0).carried }
     {
-        self.carried.at(place.0 as usize)
+        self.asides.carried_at(place.0 as usize)
+    }
+
+    /// By what the event at a place stands among those of its node: 0 if the log doesn't tell.
+    #[inline]
+    pub fn seq_at(&self, place: EventId) -> u64
+        requires { place.0 < length self.now.events }
+        ensures { result ≡ seq_at self.now.events place.0 }
+    {
+        self.asides.seq_at(place.0 as usize)
     }
 
     // Whether it tells what some message carried.
     pub(crate) fn tells_carried(&self) -> bool
         ensures { result ≡ false → (place : ℕ) → (event_at self.now.events place).carried ≡ None }
     {
-        !self.carried.is_empty()
+        !self.asides.has_no_carried()
+    }
+
+    // Whether it tells the seq of some event.
+    pub(crate) fn tells_seqs(&self) -> bool
+        ensures { result ≡ false → (place : ℕ) → seq_at self.now.events place ≡ 0 }
+    {
+        !self.asides.has_no_seq()
+    }
+
+    // A log with the events at these places.
+    pub(crate) fn arranged(&self, alloc: Global, places: &[EventId]) -> Result<Log, AllocError>
+        requires few { length places.now ≤ MAX_CAPACITY }
+        requires exist { All (λ place. place.0 < length self.now.events) places.now }
+        ensures { IfOk result (λ log. log.events ≡ arranged self.now.events (places_of places.now)) }
+    {
+        let mut log = Log::new(alloc);
+        for place in places {
+            log.push(self.at(*place))?;
+        }
+        Ok(log)
     }
 
     /// Gives the event at a place a stamp. The log tells none.
@@ -174,7 +206,7 @@ impl Log {
     #[inline]
     fn slot(&self, place: EventId) -> &Slot
         requires { place.0 < length self.now.events }
-        ensures { stored_event (event_at self.now.events place.0).carried result.now ≡ event_at self.now.events place.0 }
+        ensures { stored_event (aside_of (event_at self.now.events place.0)) result.now ≡ event_at self.now.events place.0 }
     {
         self.slots.at(place.0 as usize)
     }
@@ -201,13 +233,13 @@ impl Log {
         ensures numbered { All (IsNumbered messages) self.new.events }
         ensures in_range { All IsInRange self.old.events → All IsInRange self.new.events }
     {
-        if self.carried.is_empty() && !as_local {
+        if self.asides.has_no_carried() && !as_local {
             return Ok(UnsentCounts {
                 outside: 0,
                 unsent: 0,
             });
         }
         let sent = sent_messages(alloc, self, messages)?;
-        Ok(take_unmarked(&mut self.slots, &self.carried, &sent, as_local))
+        Ok(take_unmarked(&mut self.slots, &self.asides, &sent, as_local))
     }
 }

@@ -25,6 +25,8 @@ pub struct LogEvent {
     pub has_stamp: bool,
     /// Of a receive, the stamp that its message carried, if the log tells that.
     pub carried: Option<Stamp>,
+    /// By what it stands among the events of its node, whose lines may be in another order; 0 if the log doesn't tell.
+    pub seq: u64,
     /// The line of the log that tells of it.
     pub line: u32,
 }

@@ -6,6 +6,7 @@ ghost use Rattle.hlc_log.specs.Messages.{Receives, SendsTo};
 ghost use Rattle.hlc_log.specs.Placing.{AreAllBlocked, AreNodesBelow, AreTurns, AreTurnsBeside, IsBlocked, IsNodeBlocked, IsPassed, IsPlacing, IsReady, IsWoken, LinksToFirstFront, first_of, node_at};
 ghost use Rattle.hlc_log.specs.ReceiveLinks.{AreReceivesLinked};
 ghost use Rattle.hlc_log.specs.SendLinks.{AreSendLinks, link_at};
+ghost use Rattle.hlc_log.specs.Standing.{SeqsRise};
 ghost use Rattle.hlc_log.specs.Turns.{HasTurn};
 
 use crate::log::Log;
@@ -32,7 +33,8 @@ pub(crate) struct Placing {
 impl Placing {
     // No event has its place, and each node goes on with its first.
     pub(crate) fn new(alloc: Global, log: &Log) -> Result<Placing, AllocError>
-        requires { All (λ event. event.node.0 < MAX_LOG_NODES) log.now.events }
+        requires nodes { All (λ event. event.node.0 < MAX_LOG_NODES) log.now.events }
+        requires rise { SeqsRise log.now.events }
         ensures placing { IfOk result (IsPlacing log.now.events) }
         ensures turns { IfOk result (λ placing. AreTurns log.now.events placing.fronts.items placing.turns) }
         ensures room { IfOk result (λ placing. length log.now.events ≤ vec_capacity placing.order) }

@@ -33,12 +33,12 @@ pub(crate) struct SentWith {
 
 // The first send of each message, and how many events send one again.
 #[derive(Drop)]
-struct FirstSends {
-    links: Vec<Link>,
+pub(crate) struct FirstSends {
+    pub(crate) links: Vec<Link>,
     resent: u32,
 }
 
-fn first_sends(alloc: Global, log: &Log, messages: u32) -> Result<FirstSends, AllocError>
+pub(crate) fn first_sends(alloc: Global, log: &Log, messages: u32) -> Result<FirstSends, AllocError>
     requires { All (IsNumbered messages) log.now.events }
     ensures len { IfOk result (λ first. length first.links.items ≡ messages) }
     ensures links { IfOk result (λ first. AreFirstSends log.now.events (length log.now.events) first.links.items) }

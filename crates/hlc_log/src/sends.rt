@@ -19,6 +19,7 @@ pub(crate) fn sends_of(alloc: Global, log: &Log, messages: u32) -> Result<Vec<Li
     ensures len { IfOk result (λ sends. length sends.items ≡ messages) }
     ensures links { IfOk result (λ sends. AreSendLinks log.now.events (length log.now.events) sends.items) }
     ensures fault { IfErr result (IsFaultOf log.now.events) }
+    ensures memory { AreMessagesSound log.now.events → IfErr result (λ fault. fault ≡ OrderFault.Memory) }
 {
     let mut sends = vec![in alloc; Link::none(); messages as usize]?;
     for place in 0..log.len() {

@@ -1,11 +1,11 @@
 // Where a log keeps an event.
 
-ghost use Rattle.std.specs.Prelude.{◌≡◌, Option, false, length, true};
-ghost use Rattle.hlc_stamp.specs.Order.{Pair};
+ghost use Rattle.std.specs.Prelude.{◌≡◌, false, length, true};
 ghost use Rattle.hlc_log.specs.Events.{IsMessageBelow, of_kind, with_stamp};
-ghost use Rattle.hlc_log.specs.Slots.{kind_by, stored_event, tells_reading, tells_stamp};
+ghost use Rattle.hlc_log.specs.Slots.{aside_of, kind_by, stored_event, tells_reading, tells_stamp};
 ghost use Rattle.hlc_log.specs.Unsent.{is_unmarked};
 
+use crate::asides::Aside;
 use crate::log_event::{LogEvent, LogKind};
 use crate::message_id::MessageId;
 use hlc_stamp::{NodeId, Stamp};
@@ -81,7 +81,7 @@ fn stored_kind(kind: LogKind) -> (Role, MessageId)
     }
 }
 
-// An event in 32 bytes, without what its message carried, which few logs tell. A `LogEvent` takes 80.
+// An event in 32 bytes, without what few logs tell, which is kept aside. A `LogEvent` takes 88.
 #[derive(Clone, Copy)]
 pub(crate) struct Slot {
     pub(crate) reading: u64,
@@ -98,9 +98,9 @@ pub(crate) struct Slot {
 const _: () = prove!(size_of::<Slot>() == 32);
 
 impl Slot {
-    // The slot of an event. What its message carried isn't kept in it.
+    // The slot of an event. What its message carried, and its seq, aren't kept in it.
     pub(crate) fn new(event: LogEvent) -> Slot
-        ensures { stored_event event.carried result ≡ event }
+        ensures { stored_event (aside_of event) result ≡ event }
     {
         let (role, message) = stored_kind(event.kind);
         Slot {
@@ -115,10 +115,10 @@ impl Slot {
         }
     }
 
-    // The event, with what its message carried.
+    // The event, with what is told of it aside.
     #[inline]
-    pub(crate) fn event(&self, carried: Option<Stamp>) -> LogEvent
-        ensures { result ≡ stored_event carried self.now }
+    pub(crate) fn event(&self, aside: Aside) -> LogEvent
+        ensures { result ≡ stored_event aside self.now }
     {
         LogEvent {
             node: self.node,
@@ -127,7 +127,8 @@ impl Slot {
             kind: self.kind(),
             stamp: self.stamp(),
             has_stamp: self.told.has_stamp(),
-            carried,
+            carried: aside.carried,
+            seq: aside.seq,
             line: self.line,
         }
     }
@@ -159,7 +160,7 @@ impl Slot {
 
     // Gives the event a stamp.
     pub(crate) fn give_stamp(&mut self, stamp: Stamp)
-        ensures { (carried : Option Pair) → stored_event carried self.new ≡ with_stamp stamp (stored_event carried self.old) }
+        ensures { (aside : Aside) → stored_event aside self.new ≡ with_stamp stamp (stored_event aside self.old) }
     {
         self.l = stamp.l;
         self.c = stamp.c;
@@ -167,7 +168,7 @@ impl Slot {
 
     // Makes it an event of a kind.
     pub(crate) fn take_as(&mut self, kind: LogKind)
-        ensures { (carried : Option Pair) → stored_event carried self.new ≡ of_kind kind (stored_event carried self.old) }
+        ensures { (aside : Aside) → stored_event aside self.new ≡ of_kind kind (stored_event aside self.old) }
     {
         let (role, message) = stored_kind(kind);
         self.role = role;

@@ -5,7 +5,7 @@ ghost use Rattle.hlc_log.specs.Events.{IsNumbered};
 ghost use Rattle.hlc_log.specs.Slots.{kind_by, stored_events};
 ghost use Rattle.hlc_log.specs.Unsent.{AreSentMarks, local_count, outside_count, taken_kind, with_unsent};
 
-use crate::carried::Carried;
+use crate::asides::Asides;
 use crate::log::Log;
 use crate::log_event::LogKind;
 use crate::message_id::MessageId;
@@ -37,22 +37,22 @@ pub(crate) fn sent_messages(
 // Takes each event that receives a message without a mark as coming in from outside, if what it carried is told, and else, if asked, as local.
 pub(crate) fn take_unmarked(
     slots: &mut Pages<Slot>,
-    carried: &Carried,
+    asides: &Asides,
     sent: &[bool],
     as_local: bool,
 ) -> UnsentCounts
     requires few { length slots.old.items ≤ MAX_CAPACITY }
-    requires numbered { All (IsNumbered (length sent.now)) (stored_events carried.now slots.old.items) }
-    requires marks { AreSentMarks (stored_events carried.now slots.old.items) sent.now }
+    requires numbered { All (IsNumbered (length sent.now)) (stored_events asides.now slots.old.items) }
+    requires marks { AreSentMarks (stored_events asides.now slots.old.items) sent.now }
     ensures len { length slots.new.items ≡ length slots.old.items }
-    ensures events { stored_events carried.now slots.new.items ≡ with_unsent as_local (stored_events carried.now slots.old.items) }
-    ensures outside { result.outside ≡ outside_count (stored_events carried.now slots.old.items) }
-    ensures unsent { result.unsent ≡ local_count as_local (stored_events carried.now slots.old.items) }
+    ensures events { stored_events asides.now slots.new.items ≡ with_unsent as_local (stored_events asides.now slots.old.items) }
+    ensures outside { result.outside ≡ outside_count (stored_events asides.now slots.old.items) }
+    ensures unsent { result.unsent ≡ local_count as_local (stored_events asides.now slots.old.items) }
 {
     let mut outside = 0;
     let mut unsent = 0;
     for place in 0..slots.len() {
-        let stamp = carried.at(place);
+        let stamp = asides.carried_at(place);
         let slot = slots.at_mut(place);
         if slot.take_unmarked(sent, unsent_role(stamp, as_local)) {
             if stamp.is_some() {

@@ -1,32 +1,29 @@
 -- Answers, one after another.
+use Rattle.hlc_log_text.specs.declared.file_mark.FileMark.{FileMark}
 use Rattle.std.proofs.Common.{◌≡◌, ◌∙◌, List, [], ◌∷◌, ◌++◌, ◌+◌, ◌<◌, ℕ, ap, get_or, length, map, take}
 use Rattle.std.proofs.lemmas.List.{map_push, take_more}
 use Rattle.hlc_csv.specs.Rows.{Fields}
 use Rattle.hlc_log_report.specs.InOrder.{LogInOrder}
-use Rattle.hlc_log_text.specs.Question.{Asked, numbers_of}
-use Rattle.hlc_log_text.specs.declared.question.Line.{Line}
+use Rattle.hlc_log_text.specs.Question.{Asked}
 use Rattle.hlc_log_audit.specs.Answers.{AreAnswers, IsAnswer}
 
 -- the positions of one line more
-pub positions_more : (at : ℕ → ℕ) (lines : List Line) (i : ℕ) (d : Line) → i < length lines
-    → map at (numbers_of (take (i + 1) lines)) ≡ map at (numbers_of (take i lines)) ++ at (get_or lines i d).0 ∷ []
-positions_more at lines i d lt =
-    ap (λ (xs : List Line). map at (numbers_of xs)) (take_more lines i d lt)
-    ∙ ap (map at) (map_push (λ (line : Line). line.0) (take i lines) (get_or lines i d))
-    ∙ map_push at (numbers_of (take i lines)) (get_or lines i d).0
+pub positions_more : (at : ℕ → ℕ) (lines : List ℕ) (i d : ℕ) → i < length lines
+    → map at (take (i + 1) lines) ≡ map at (take i lines) ++ at (get_or lines i d) ∷ []
+positions_more at lines i d lt = ap (map at) (take_more lines i d lt) ∙ map_push at (take i lines) (get_or lines i d)
 
-module _ (nodes : List (List ℕ)) (labels : List (ℕ × List ℕ)) (log : LogInOrder) (full : ℕ) where
+module _ (files : List FileMark) (nodes : List (List ℕ)) (labels : List (ℕ × List ℕ)) (log : LogInOrder) (full : ℕ) where
   pub answers_push : (questions : List Asked) (rows : List Fields) (question : Asked) (row : Fields)
-      → AreAnswers nodes labels log full questions rows → IsAnswer nodes labels log full question row
-      → AreAnswers nodes labels log full (questions ++ question ∷ []) (rows ++ row ∷ [])
+      → AreAnswers files nodes labels log full questions rows → IsAnswer files nodes labels log full question row
+      → AreAnswers files nodes labels log full (questions ++ question ∷ []) (rows ++ row ∷ [])
   answers_push [] [] question row are is = (is, tt)
   answers_push [] (other ∷ rows) question row are is = absurd are
   answers_push (other ∷ questions) [] question row are is = absurd are
   answers_push (other ∷ questions) (first ∷ rows) question row are is = (are.0, answers_push questions rows question row are.1 is)
 
   -- answers to some questions, and then to more
-  pub answers_join : (questions more : List Asked) (rows rest : List Fields) → AreAnswers nodes labels log full questions rows
-      → AreAnswers nodes labels log full more rest → AreAnswers nodes labels log full (questions ++ more) (rows ++ rest)
+  pub answers_join : (questions more : List Asked) (rows rest : List Fields) → AreAnswers files nodes labels log full questions rows
+      → AreAnswers files nodes labels log full more rest → AreAnswers files nodes labels log full (questions ++ more) (rows ++ rest)
   answers_join [] more [] rest are others = others
   answers_join [] more (other ∷ rows) rest are others = absurd are
   answers_join (other ∷ questions) more [] rest are others = absurd are

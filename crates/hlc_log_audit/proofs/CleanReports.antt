@@ -1,4 +1,5 @@
 -- The report on a log that claims the least stamps.
+use Rattle.hlc_log_text.specs.declared.file_mark.FileMark.{FileMark}
 use Rattle.std.proofs.Common.{◌≡◌, ◌∙◌, ℕ, ◌<◌, inl, inr, List, [], ◌∷◌, ◌++◌, length, Option, Some, None, append-nil, arith, refl, sym, ap}
 use Rattle.std.specs.Prelude.{codes, slice_index_or}
 use Rattle.hlc_stamp.specs.Order.{Pair}
@@ -22,7 +23,7 @@ use Rattle.hlc_log_report.proofs.Ordering.{claimed_at, order_len}
 use Rattle.hlc_log_text.specs.StampForms.{greatest_c}
 use Rattle.hlc_log_audit.specs.Audit.{BreaksOrder, ClaimsOver, ExceedsLimit, IsBroken, IsOutOfOrder}
 use Rattle.hlc_log_audit.specs.Laws.{LeastStampsAreSound, LeastStampsReportClean}
-use Rattle.hlc_log_audit.specs.Report.{AreCauses, cause_rows, cause_rows_at, count_row, count_rows, message_row, node_rows, wrong_row}
+use Rattle.hlc_log_audit.specs.Report.{AreCauses, cause_rows, cause_rows_at, count_row, count_rows, message_row, node_rows, unit_rows, wrong_row}
 use Rattle.hlc_log_audit.specs.declared.outcome.Outcome.TheVariants as outcome
 use Rattle.hlc_log_audit.proofs.CauseRows.{no_rows}
 use Rattle.hlc_log_audit.proofs.EventsInOrder.{same_causes}
@@ -47,12 +48,12 @@ module _ (log : LogInOrder) (ordered : IsInOrder log) (same : claimed_of log ≡
       let there : at.0 < length (clocks_of log) = omega (arith, at.1, length-clocks_of log, length-skeleton_in log.events log.order ordered.causal) in
       same_causes log full at.0 there (slice_index_or causes e no_causes) no_causes (are.each e exists at.0 at.1 at.2) (kept at.0 at.1)
 
-  no_cause_is_told : (nodes : List (List ℕ)) (causes : List Causes) → AreCauses log full causes → cause_rows nodes log causes ≡ []
-  no_cause_is_told nodes causes are =
-      no_rows (λ e. cause_rows_at nodes log e (slice_index_or causes e no_causes)) (length log.events)
+  no_cause_is_told : (files : List FileMark) (nodes : List (List ℕ)) (causes : List Causes) → AreCauses log full causes → cause_rows files nodes log full causes ≡ []
+  no_cause_is_told files nodes causes are =
+      no_rows (λ e. cause_rows_at files nodes log full e (slice_index_or causes e no_causes)) (length log.events)
       (λ e exists.
       let at = place_of_index log.events log.order ordered.causal e exists in
-      ap (cause_rows_at nodes log e) (none_found causes are e exists) ∙ ap (wrong_row nodes log e) (right (index_in log.order e) at.0))
+      ap (cause_rows_at files nodes log full e) (none_found causes are e exists) ∙ ap (wrong_row files nodes log e) (right (index_in log.order e) at.0))
 
   none_out_of_order : (k : ℕ) → k < length log.order → ¬ IsOutOfOrder log full k
   none_out_of_order k exists (inl behind) = let both = (kept k exists Behind).1 behind in cc
@@ -67,18 +68,23 @@ module _ (log : LogInOrder) (ordered : IsInOrder log) (same : claimed_of log ≡
   nothing_is_broken (inr (k, d, within, wrong)) = let both : ◌≡◌ {A = Option ℕ} None (Some d) = sym (right k within) ∙ wrong in absurd cc
 
 pub least_stamps_report_clean : LeastStampsReportClean
-least_stamps_report_clean nodes log full rows ordered same right report =
-    let rest : List Fields → List Fields = λ causes. causes ++ (node_rows nodes log ++ (message_row (message_counts log) ∷ report.skews)) in
+least_stamps_report_clean files nodes log full rows ordered same right report =
+    let rest : List Fields → List Fields = λ causes. causes ++ (node_rows files nodes log ++ (message_row (message_counts log) ∷ (report.skews ++ unit_rows report.counts log.events))) in
     record {
       skews = report.skews;
       are_skews = report.are_skews;
       rows_are =
           report.rows_are
-          ∙ ap (λ (counts : Counts). count_rows counts ++ rest (cause_rows nodes log report.causes))
+          ∙ ap (λ (counts : Counts). count_rows counts ++ rest (cause_rows files nodes log full report.causes))
           (counted_least log ordered same right full report.counts report.counted)
-          ∙ ap (λ (counts : List Fields). counts ++ rest (cause_rows nodes log report.causes)) (least_rows log ordered same right full (told_count log))
+          ∙ ap (λ (counts : List Fields). counts ++ rest (cause_rows files nodes log full report.causes)) (least_rows log ordered same right full (told_count log))
           ∙ ap (λ (causes : List Fields). count_row (codes "least") (told_count log) ++ rest causes)
-          (no_cause_is_told log ordered same right full nodes report.causes report.are_causes);
+          (no_cause_is_told log ordered same right full files nodes report.causes report.are_causes)
+          ∙ ap (λ (counts : Counts). count_row (codes "least") (told_count log) ++ (node_rows files nodes log ++ (message_row (message_counts log)
+          ∷ (report.skews ++ unit_rows counts log.events))))
+          (counted_least log ordered same right full report.counts report.counted)
+          ∙ ap (λ (skews : List Fields). count_row (codes "least") (told_count log) ++ (node_rows files nodes log ++ (message_row (message_counts log) ∷ skews)))
+          (append-nil report.skews);
     }
 
 -- a claim that is the least stamp is over the limit only if the drift exceeds it

@@ -14,6 +14,7 @@ pub mod RowsAdded
 pub mod SameAnswers
 pub mod SameAudits
 pub mod SameOutcomes
+pub mod SameParts
 pub mod SameReports
 pub mod Tallies
 pub mod Telling

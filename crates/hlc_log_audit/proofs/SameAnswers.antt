@@ -1,4 +1,7 @@
 -- The answers about one log, in two causal orders.
+use Rattle.hlc_log_text.specs.declared.file_mark.FileMark.{FileMark}
+use Rattle.hlc_log_text.specs.Files.{line_at, line_text, location_text}
+use Rattle.hlc_log_audit.specs.Answers.{line_or_none, told_in}
 use Rattle.std.proofs.Common.{◌≡◌, ◌∙◌, Bool, true, cond, ℕ, suc, ◌+◌, ◌==◌, ◌<◌, List, [], ◌∷◌, length, get_or, map, Option, Some, None, arith, refl, subst, sym, ap}
 use Rattle.std.specs.Prelude.{All, Contains, IfSome, codes, decimal, option_map, position, unwrap_or}
 use Rattle.std.specs.List.{IsDistinct}
@@ -89,17 +92,17 @@ module _ (log other : LogInOrder) (to back : ℕ → ℕ) (h : IsRearranged log 
   pub same_node : (node : ℕ) → IsSameNode (skeleton_of log) (skeleton_of other) to_there node node
   same_node node k lt = (λ is. node_moved k lt ∙ is, λ is. sym (node_moved k lt) ∙ is)
 
-  drift_fields_moved : (found : Option Drift) → IfSome found (λ drift. drift.event.0 < length log.events)
-      → IfSome found (λ drift. drift.origin.0 < length log.events) → drift_fields other (option_map (moved_drift to_there) found) ≡ drift_fields log found
-  drift_fields_moved None event origin = refl
-  drift_fields_moved (Some drift) event origin =
-      ap (λ (line : ℕ). decimal drift.ahead ∷ decimal line ∷ decimal (line_in other (to_there drift.origin.0)) ∷ []) (line_moved drift.event.0 event)
-      ∙ ap (λ (line : ℕ). decimal drift.ahead ∷ decimal (line_in log drift.event.0) ∷ decimal line ∷ []) (line_moved drift.origin.0 origin)
+  drift_fields_moved : (files : List FileMark) (found : Option Drift) → IfSome found (λ drift. drift.event.0 < length log.events)
+      → IfSome found (λ drift. drift.origin.0 < length log.events) → drift_fields files other (option_map (moved_drift to_there) found) ≡ drift_fields files log found
+  drift_fields_moved files None event origin = refl
+  drift_fields_moved files (Some drift) event origin =
+      ap (λ (line : ℕ). decimal drift.ahead ∷ line_text files line ∷ told_in files other (to_there drift.origin.0) ∷ []) (line_moved drift.event.0 event)
+      ∙ ap (λ (line : ℕ). decimal drift.ahead ∷ told_in files log drift.event.0 ∷ line_text files line ∷ []) (line_moved drift.origin.0 origin)
 
-  pub same_drift : (node : ℕ) → drift_fields other (drift_in other node) ≡ drift_fields log (drift_in log node)
-  same_drift node =
-      ap (drift_fields other) (drifts_agree log other to back (tell_the_same log other to back h) node node (same_node node))
-      ∙ drift_fields_moved (drift_in log node) (drift_event_exists log h.ordered node) (drift_origin_exists log h.ordered node)
+  pub same_drift : (files : List FileMark) (node : ℕ) → drift_fields files other (drift_in other node) ≡ drift_fields files log (drift_in log node)
+  same_drift files node =
+      ap (drift_fields files other) (drifts_agree log other to back (tell_the_same log other to back h) node node (same_node node))
+      ∙ drift_fields_moved files (drift_in log node) (drift_event_exists log h.ordered node) (drift_origin_exists log h.ordered node)
 
   -- the lines of events
   pub lines_moved : (events : List ℕ) → All (λ (k : ℕ). k < length (skeleton_of log)) events → map (line_in other) (map to_there events) ≡ map (line_in log) events
@@ -282,16 +285,16 @@ module _ (log other : LogInOrder) (ordered : IsInOrder log) (other_ordered : IsI
           ap (λ (o : Option ℕ). if_event o other_row) found.1 ∙ each k found.0 ∙ sym (ap (λ (o : Option ℕ). if_event o row) is)
 
   -- chains and ways
-  way_moved : (word : List ℕ) (line : ℕ) (p q : Pair) (events others : List ℕ) → q ≡ p → others ≡ map there events
-      → All (λ (k : ℕ). k < length s) events → way_fields word other line q others ≡ way_fields word log line p events
-  way_moved word line p q events others pairs moves within =
-      ap (λ (r : Pair). word ∷ map decimal (line ∷ r.l ∷ r.c ∷ map (line_in other) others)) pairs
-      ∙ ap (λ (lines : List ℕ). word ∷ map decimal (line ∷ p.l ∷ p.c ∷ lines))
+  way_moved : (files : List FileMark) (word : List ℕ) (line : ℕ) (p q : Pair) (events others : List ℕ) → q ≡ p → others ≡ map there events
+      → All (λ (k : ℕ). k < length s) events → way_fields files word other line q others ≡ way_fields files word log line p events
+  way_moved files word line p q events others pairs moves within =
+      ap (λ (r : Pair). word ∷ line_text files line ∷ decimal r.l ∷ decimal r.c ∷ map (line_text files) (map (line_in other) others)) pairs
+      ∙ ap (λ (lines : List ℕ). word ∷ line_text files line ∷ decimal p.l ∷ decimal p.c ∷ map (line_text files) lines)
       (ap (map (line_in other)) moves ∙ lines_moved log other itself itself one events within)
 
-  chain_row : (line k : ℕ) → k < length s → chain_fields other line (there k) ≡ chain_fields log line k
-  chain_row line k lt =
-      way_moved (codes "chain") line (pair_at log.least k) (pair_at other.least (there k)) (clock_chain_of (clocks_of log) log.least k)
+  chain_row : (files : List FileMark) (line k : ℕ) → k < length s → chain_fields files other line (there k) ≡ chain_fields files log line k
+  chain_row files line k lt =
+      way_moved files (codes "chain") line (pair_at log.least k) (pair_at other.least (there k)) (clock_chain_of (clocks_of log) log.least k)
       (clock_chain_of (clocks_of other) other.least (there k))
       (sym (equal_least k lt))
       (clock_reordering_keeps_chains (clocks_of log) (clocks_of other) there (moved_position other log itself) clocks_move log.least other.least
@@ -299,30 +302,34 @@ module _ (log other : LogInOrder) (ordered : IsInOrder log) (other_ordered : IsI
       (subst (λ (n : ℕ). All (λ (e : ℕ). e < n) (clock_chain_of (clocks_of log) log.least k)) (length-clocks_of log)
       (chain_within (clocks_of log) log.least k (read_so k lt)))
 
-  claimed_row : (line k : ℕ) → k < length s → claimed_fields other line (there k) ≡ claimed_fields log line k
-  claimed_row line k lt =
-      way_moved (codes "claimed") line (pair_at (claimed_of log) k) (pair_at (claimed_of other) (there k)) (claimed_way s (claimed_of log) k)
+  claimed_row : (files : List FileMark) (line k : ℕ) → k < length s → claimed_fields files other line (there k) ≡ claimed_fields files log line k
+  claimed_row files line k lt =
+      way_moved files (codes "claimed") line (pair_at (claimed_of log) k) (pair_at (claimed_of other) (there k)) (claimed_way s (claimed_of log) k)
       (claimed_way t (claimed_of other) (there k)) (sym (equal_claims k lt))
       (ways_agree log other itself itself (tell_the_same log other itself itself one) k (in_order k lt))
       (claimed_way_within s (claimed_of log) k lt)
 
-  relation_row : (first second j k : ℕ) → j < length s → k < length s
-      → relation_fields other first second (there j) (there k) ≡ relation_fields log first second j k
-  relation_row first second j k j_lt k_lt =
-      ap (λ (r : Relation). codes "relation" ∷ decimal first ∷ decimal second ∷ relation_word r ∷ [])
+  pub claimed_alike : (files : List FileMark) (line : ℕ)
+      → if_event (position_on other line) (claimed_fields files other line) ≡ if_event (position_on log line) (claimed_fields files log line)
+  claimed_alike files line = row_by line (claimed_fields files log line) (claimed_fields files other line) (claimed_row files line)
+
+  relation_row : (files : List FileMark) (first second j k : ℕ) → j < length s → k < length s
+      → relation_fields files other first second (there j) (there k) ≡ relation_fields files log first second j k
+  relation_row files first second j k j_lt k_lt =
+      ap (λ (r : Relation). codes "relation" ∷ line_text files first ∷ line_text files second ∷ relation_word r ∷ [])
       (same_relation s t there (moved_position other log itself) moves j k j_lt k_lt)
 
-  drift_row_same : (name : List ℕ) (o : Option ℕ) → drift_row other name o ≡ drift_row log name o
-  drift_row_same name None = refl
-  drift_row_same name (Some node) = ap (λ (fields : Fields). codes "drift" ∷ name ∷ fields) (same_drift log other itself itself one node)
+  drift_row_same : (files : List FileMark) (name : List ℕ) (o : Option ℕ) → drift_row files other name o ≡ drift_row files log name o
+  drift_row_same files name None = refl
+  drift_row_same files name (Some node) = ap (λ (fields : Fields). codes "drift" ∷ name ∷ fields) (same_drift log other itself itself one files node)
 
   -- what is known of an event
-  module _ (nodes : List (List ℕ)) (labels : List (ℕ × List ℕ)) (full line k : ℕ) (lt : k < length s) where
+  module _ (files : List FileMark) (nodes : List (List ℕ)) (labels : List (ℕ × List ℕ)) (full line k : ℕ) (lt : k < length s) where
     event_row : (found other_found : Option Finding) → FindsAt log full k found → FindsAt other full (there k) other_found
-        → event_fields_at nodes labels other line (there k) other_found ≡ event_fields_at nodes labels log line k found
+        → event_fields_at files nodes labels other line (there k) other_found ≡ event_fields_at files nodes labels log line k found
     event_row found other_found names other_names =
         let row : LogEvent → Pair → List ℕ → ℕ → Fields = λ event least word place.
-        codes "event" ∷ decimal line ∷ name_of nodes event.node.0 ∷ reading_field event ∷ decimal event.stamp.l ∷ decimal event.stamp.c
+        codes "event" ∷ line_text files line ∷ name_of nodes event.node.0 ∷ reading_field event ∷ decimal event.stamp.l ∷ decimal event.stamp.c
         ∷ decimal least.l ∷ decimal least.c ∷ word ∷ label_fields (label_at labels place) in
         let event = event_in_order log.events log.order k in
         let other_event = event_in_order other.events other.order (there k) in
@@ -421,8 +428,18 @@ module _ (log other : LogInOrder) (ordered : IsInOrder log) (other_ordered : IsI
       ap (λ (x : ℕ). is_clock_explained_by (clocks_of other) other.least x (map (position_or_end other) chain)) (or_end_moved line exists)
       ∙ ap (λ (xs : List ℕ). is_clock_explained_by (clocks_of other) other.least (there e) xs) (all_moved chain within) ∙ tested
 
+-- answers by a line
+by_line : (o : Option ℕ) (row other_row : ℕ → Fields) → ((line : ℕ) → other_row line ≡ row line) → if_event o other_row ≡ if_event o row
+by_line None row other_row each = refl
+by_line (Some line) row other_row each = each line
+
+told_by_line : (o : Option ℕ) (Tells OtherTells : ℕ → Fields → Type 0) (row other_row : Fields)
+    → ((line : ℕ) → Tells line row → OtherTells line other_row → other_row ≡ row) → IfEvent o Tells row → IfEvent o OtherTells other_row → other_row ≡ row
+told_by_line None Tells OtherTells row other_row each tells other_tells = other_tells ∙ sym tells
+told_by_line (Some line) Tells OtherTells row other_row each tells other_tells = each line tells other_tells
+
 -- each kind of answer
-module _ (nodes : List (List ℕ)) (labels : List (ℕ × List ℕ)) (log other : LogInOrder) (full : ℕ) (ordered : IsInOrder log) (other_ordered : IsInOrder other)
+module _ (files : List FileMark) (nodes : List (List ℕ)) (labels : List (ℕ × List ℕ)) (log other : LogInOrder) (full : ℕ) (ordered : IsInOrder log) (other_ordered : IsInOrder other)
     (clocks : other.receives ≡ log.receives) (same : other.events ≡ log.events) (rise : LinesRise log.events) where
   abbrev to_other : ℕ → ℕ
   to_other = there log other ordered other_ordered clocks same rise
@@ -442,8 +459,8 @@ module _ (nodes : List (List ℕ)) (labels : List (ℕ × List ℕ)) (log other 
       each k found.0 (subst (λ (o : Option ℕ). IfEvent o Tells row) is tells)
       (subst (λ (o : Option ℕ). IfEvent o OtherTells other_row) found.1 other_tells)
 
-  influenced_row : (line k : ℕ) (row other_row : Fields) → k < length (skeleton_of log) → TellsInfluenced log line k row
-      → TellsInfluenced other line (to_other k) other_row → other_row ≡ row
+  influenced_row : (line k : ℕ) (row other_row : Fields) → k < length (skeleton_of log) → TellsInfluenced files log line k row
+      → TellsInfluenced files other line (to_other k) other_row → other_row ≡ row
   influenced_row line k row other_row lt (lines, are, is) (others, others_are, others_is) =
       let size = same_size log other (λ e. e) (λ e. e) (one_log log other clocks ordered other_ordered same) in
       let moved_so = moves log other ordered other_ordered clocks same rise in
@@ -459,12 +476,12 @@ module _ (nodes : List (List ℕ)) (labels : List (ℕ × List ℕ)) (log other 
         lines_there other log other_ordered ordered (sym clocks) (sym same) back_rise (to_other k) far others lines others_are are_back f,
         lines_there log other ordered other_ordered clocks same rise k lt lines others are others_are f,
       )) in
-      others_is ∙ ap (λ (ls : List ℕ). codes "influenced" ∷ map decimal (line ∷ ls)) equal ∙ sym is
+      others_is ∙ ap (λ (ls : List ℕ). codes "influenced" ∷ map (line_text files) (line ∷ ls)) equal ∙ sym is
 
-  known_row : (line k : ℕ) (row other_row : Fields) → k < length (skeleton_of log) → TellsEvent nodes labels log full line k row
-      → TellsEvent nodes labels other full line (to_other k) other_row → other_row ≡ row
+  known_row : (line k : ℕ) (row other_row : Fields) → k < length (skeleton_of log) → TellsEvent files nodes labels log full line k row
+      → TellsEvent files nodes labels other full line (to_other k) other_row → other_row ≡ row
   known_row line k row other_row lt (found, names, is) (other_found, other_names, other_is) =
-      other_is ∙ event_row log other ordered other_ordered clocks same rise nodes labels full line k lt found other_found names other_names ∙ sym is
+      other_is ∙ event_row log other ordered other_ordered clocks same rise files nodes labels full line k lt found other_found names other_names ∙ sym is
 
   same_check : (line : ℕ) (chain : List ℕ) → explains other line chain ≡ explains log line chain
   same_check line chain =
@@ -472,32 +489,46 @@ module _ (nodes : List (List ℕ)) (labels : List (ℕ × List ℕ)) (log other 
       (explained_there log other ordered other_ordered clocks same rise line chain)
       (explained_there other log other_ordered ordered (sym clocks) (sym same) (other_rise log other ordered other_ordered clocks same rise) line chain)
 
-  pub one_answer : (question : Asked) (row other_row : Fields) → IsAnswer nodes labels log full question row
-      → IsAnswer nodes labels other full question other_row → other_row ≡ row
-  one_answer (Explain line) row other_row is other_is =
-      other_is ∙ row_by log other ordered other_ordered clocks same rise line (chain_fields log line) (chain_fields other line)
-      (chain_row log other ordered other_ordered clocks same rise line) ∙ sym is
-  one_answer (Check line chain) row other_row is other_is =
-      other_is ∙ ap (λ (b : Bool). codes "check" ∷ decimal line ∷ yes_or_no b ∷ []) (same_check line chain) ∙ sym is
-  one_answer (RelationAsked first second) row other_row is other_is =
-      other_is ∙ row_by log other ordered other_ordered clocks same rise first
-      (λ j. if_event (position_on log second) (relation_fields log first second j))
-      (λ j. if_event (position_on other second) (relation_fields other first second j))
-      (λ j j_lt. row_by log other ordered other_ordered clocks same rise second (relation_fields log first second j)
-      (relation_fields other first second (to_other j)) (λ k k_lt. relation_row log other ordered other_ordered clocks same rise first second j k j_lt k_lt))
+  pub one_answer : (question : Asked) (row other_row : Fields) → IsAnswer files nodes labels log full question row
+      → IsAnswer files nodes labels other full question other_row → other_row ≡ row
+  one_answer (Explain event) row other_row is other_is =
+      other_is ∙ by_line (line_at files event) (λ line. if_event (position_on log line) (chain_fields files log line))
+      (λ line. if_event (position_on other line) (chain_fields files other line))
+      (λ line. row_by log other ordered other_ordered clocks same rise line (chain_fields files log line) (chain_fields files other line)
+      (chain_row log other ordered other_ordered clocks same rise files line)) ∙ sym is
+  one_answer (Check event chain) row other_row is other_is =
+      other_is ∙ ap (λ (b : Bool). codes "check" ∷ location_text event ∷ yes_or_no b ∷ []) (same_check (line_or_none files event) (map (line_or_none files) chain))
       ∙ sym is
-  one_answer (Influenced line) row other_row is other_is =
-      by_event line (TellsInfluenced log line) (TellsInfluenced other line) row other_row
-      (λ k lt tells other_tells. influenced_row line k row other_row lt tells other_tells) (position_on log line) refl is other_is
+  one_answer (RelationAsked first second) row other_row is other_is =
+      let here : ℕ → ℕ → Fields = λ one two.
+      if_event (position_on log one) (λ j. if_event (position_on log two) (relation_fields files log one two j)) in
+      let there : ℕ → ℕ → Fields = λ one two.
+      if_event (position_on other one) (λ j. if_event (position_on other two) (relation_fields files other one two j)) in
+      other_is ∙ by_line (line_at files first) (λ one. if_event (line_at files second) (here one)) (λ one. if_event (line_at files second) (there one))
+      (λ one. by_line (line_at files second) (here one) (there one) (λ two.
+      row_by log other ordered other_ordered clocks same rise one
+      (λ j. if_event (position_on log two) (relation_fields files log one two j))
+      (λ j. if_event (position_on other two) (relation_fields files other one two j))
+      (λ j j_lt. row_by log other ordered other_ordered clocks same rise two (relation_fields files log one two j)
+      (relation_fields files other one two (to_other j)) (λ k k_lt. relation_row log other ordered other_ordered clocks same rise files one two j k j_lt k_lt))))
+      ∙ sym is
+  one_answer (Influenced event) row other_row is other_is =
+      told_by_line (line_at files event) (λ line. IfEvent (position_on log line) (TellsInfluenced files log line))
+      (λ line. IfEvent (position_on other line) (TellsInfluenced files other line)) row other_row
+      (λ line here there. by_event line (TellsInfluenced files log line) (TellsInfluenced files other line) row other_row
+      (λ k lt tells other_tells. influenced_row line k row other_row lt tells other_tells) (position_on log line) refl here there) is other_is
   one_answer (DriftAsked name) row other_row is other_is =
-      other_is ∙ drift_row_same log other ordered other_ordered clocks same rise name (position (bytes_eq name) nodes) ∙ sym is
-  one_answer (Claimed line) row other_row is other_is =
-      other_is ∙ row_by log other ordered other_ordered clocks same rise line (claimed_fields log line) (claimed_fields other line)
-      (claimed_row log other ordered other_ordered clocks same rise line) ∙ sym is
-  one_answer (Event line) row other_row is other_is =
-      by_event line (TellsEvent nodes labels log full line) (TellsEvent nodes labels other full line) row other_row
-      (λ k lt tells other_tells. known_row line k row other_row lt tells other_tells) (position_on log line) refl is other_is
+      other_is ∙ drift_row_same log other ordered other_ordered clocks same rise files name (position (bytes_eq name) nodes) ∙ sym is
+  one_answer (Claimed event) row other_row is other_is =
+      other_is ∙ by_line (line_at files event) (λ line. if_event (position_on log line) (claimed_fields files log line))
+      (λ line. if_event (position_on other line) (claimed_fields files other line))
+      (λ line. claimed_alike log other ordered other_ordered clocks same rise files line) ∙ sym is
+  one_answer (Event event) row other_row is other_is =
+      told_by_line (line_at files event) (λ line. IfEvent (position_on log line) (TellsEvent files nodes labels log full line))
+      (λ line. IfEvent (position_on other line) (TellsEvent files nodes labels other full line)) row other_row
+      (λ line here there. by_event line (TellsEvent files nodes labels log full line) (TellsEvent files nodes labels other full line) row other_row
+      (λ k lt tells other_tells. known_row line k row other_row lt tells other_tells) (position_on log line) refl here there) is other_is
 
 pub answers_agree : AnswersAgree
-answers_agree nodes labels log other full question row other_row ordered other_ordered clocks same rise is other_is =
-    one_answer nodes labels log other full ordered other_ordered clocks same rise question row other_row is other_is
+answers_agree files nodes labels log other full question row other_row ordered other_ordered clocks same rise is other_is =
+    one_answer files nodes labels log other full ordered other_ordered clocks same rise question row other_row is other_is

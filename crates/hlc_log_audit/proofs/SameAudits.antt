@@ -1,15 +1,17 @@
 -- Two audits of one log leave the same.
-use Rattle.std.proofs.Common.{◌≡◌, ◌∙◌, ◌⊎◌, Bool, true, false, ℕ, ◌≤◌, inl, inr, List, [], ◌∷◌, ◌++◌, length, Option, Some, append-nil, arith, refl, subst, sym, ap}
-use Rattle.std.proofs.lemmas.Bool.{cases_order}
+use Rattle.hlc_log_text.specs.declared.file_mark.FileMark.{FileMark}
+use Rattle.std.proofs.Common.{◌≡◌, ◌∙◌, ◌⊎◌, Bool, true, false, ℕ, inl, inr, List, [], ◌∷◌, ◌++◌, Option, None, Some, append-nil, arith, refl, subst, sym, ap}
+use Rattle.std.proofs.lemmas.Bool.{cases_eq, cases_order}
 use Rattle.hlc_csv.specs.Rows.{Fields, text_of}
 use Rattle.hlc_log.specs.declared.log_event.LogEvent.{LogEvent}
 use Rattle.hlc_log.specs.declared.order_fault.OrderFault.{OrderFault}
 use Rattle.hlc_log.specs.declared.order_fault.OrderFault.TheVariants.{Cycle, Memory, SentTwice, Unsent}
-use Rattle.hlc_log.specs.CausalOrder.{Waits}
+use Rattle.hlc_log.specs.CausalOrder.{IsCausalOrder, Waits}
 use Rattle.hlc_log.specs.Events.{event_at}
-use Rattle.hlc_log.specs.Faults.{IsFaultOf, IsFirst}
-use Rattle.hlc_log.specs.Messages.{ReceivesUnsent, SendsAgain}
+use Rattle.hlc_log.specs.Faults.{IsFaultOf, IsFirst, StandsFirst}
+use Rattle.hlc_log.specs.Messages.{AreMessagesSound, ReceivesUnsent, SendsAgain}
 use Rattle.hlc_log.proofs.Agreement.{faults_leave_no_order}
+use Rattle.hlc_log.proofs.StandingEvents.{stands_either_way}
 use Rattle.hlc_log_text.specs.Question.{Asked}
 use Rattle.hlc_log_text.specs.declared.bad_log.BadLine.{BadLine}
 use Rattle.hlc_log_text.specs.declared.log_text.LogText.{LogText}
@@ -22,8 +24,10 @@ use Rattle.hlc_log_report.proofs.GivenStamps.{filled_twice}
 use Rattle.hlc_log_report.proofs.Rearranged.{given_stamps_agree, one_log, tell_the_same}
 use Rattle.hlc_open_log.specs.Opened.{LinesRise}
 use Rattle.hlc_log_audit.proofs.SameAnswers.{answers_agree}
-use Rattle.hlc_open_log.specs.Opened.{OpenedLog, opened_events, resent_apart}
-use Rattle.hlc_open_log.proofs.OpenedLogs.{no_memory, one_text}
+use Rattle.hlc_open_log.specs.Opened.{IsPartOf, OpenedLog, opened_events, resent_apart}
+use Rattle.hlc_open_log.specs.Unopened.{IsRefused}
+use Rattle.hlc_open_log.proofs.PartsOpened.{part_rises}
+use Rattle.hlc_open_log.proofs.OpenedLogs.{one_text}
 use Rattle.hlc_log_audit.specs.LeftOut.{left_out_rows}
 use Rattle.hlc_log_audit.specs.Audit.{IsReportIf, is_reported, AreRowsTold, IsDisorderShown, IsTextAudited, IsTold, all_asked, missing_rows, taken_rows}
 use Rattle.hlc_log_audit.specs.Laws.{AuditsAgree}
@@ -35,6 +39,7 @@ use Rattle.hlc_open_log.proofs.LinesKept.{rise_apart, rise_filled, rise_kept}
 use Rattle.hlc_log_audit.proofs.OverRows.{same_over_rows}
 use Rattle.hlc_log_audit.proofs.SameOutcomes.{outcomes_agree}
 use Rattle.hlc_log_audit.proofs.SameReports.{reports_agree}
+use Rattle.hlc_log_audit.proofs.SameParts.{no_fault_of_part, one_part}
 use Rattle.hlc_log_audit.proofs.Telling.{opened_alike}
 
 -- filled events, with the stamps that they had
@@ -56,6 +61,12 @@ one_first P d e a b = elim (cases_order d e) [
   | inr differ ↦ elim differ [ inl lt ↦ absurd (b.first d lt a.has) | inr gt ↦ absurd (a.first e gt b.has) ]
 ]
 
+one_stands_first : (events : List LogEvent) (P : ℕ → Type 0) (d e : ℕ) → StandsFirst events P d → StandsFirst events P e → d ≡ e
+one_stands_first events P d e a b = elim (cases_eq d e) [
+  | inl same ↦ same
+  | inr differ ↦ elim (stands_either_way events d e differ) [ inl before ↦ absurd (b.first d before a.has) | inr after ↦ absurd (a.first e after b.has) ]
+]
+
 one_fault : (events : List LogEvent) (a b : OrderFault) → ¬ (a ≡ Memory) → ¬ (b ≡ Memory) → IsFaultOf events a → IsFaultOf events b → a ≡ b
 one_fault events Memory b a_other b_other p q = absurd (a_other refl)
 one_fault events (SentTwice d) (SentTwice e) a_other b_other p q = ap (λ (n : ℕ). SentTwice (record { 0 = n })) (one_first (SendsAgain events) d.0 e.0 p q)
@@ -68,19 +79,19 @@ one_fault events (Unsent d) (Cycle e) a_other b_other p q = absurd (q.0.sent d.0
 one_fault events (Unsent d) Memory a_other b_other p q = absurd (b_other refl)
 one_fault events (Cycle d) (SentTwice e) a_other b_other p q = absurd (p.0.once e.0 q.has)
 one_fault events (Cycle d) (Unsent e) a_other b_other p q = absurd (p.0.sent e.0 q.1.has)
-one_fault events (Cycle d) (Cycle e) a_other b_other p q = ap (λ (n : ℕ). Cycle (record { 0 = n })) (one_first (Waits events) d.0 e.0 p.1 q.1)
+one_fault events (Cycle d) (Cycle e) a_other b_other p q = ap (λ (n : ℕ). Cycle (record { 0 = n })) (one_stands_first events (Waits events) d.0 e.0 p.1 q.1)
 one_fault events (Cycle d) Memory a_other b_other p q = absurd (b_other refl)
 
 -- if nothing is asked, the rows are the report, how many receives were taken as local, of how many events something isn't told, and which claims are
 -- over the limit
-no_answers : (nodes : List (List ℕ)) (labels : List (ℕ × List ℕ)) (log : LogInOrder) (full : ℕ) (answers : List Fields)
-    → AreAnswers nodes labels log full [] answers → answers ≡ []
-no_answers nodes labels log full [] are = refl
-no_answers nodes labels log full (row ∷ rows) are = absurd are
+no_answers : (files : List FileMark) (nodes : List (List ℕ)) (labels : List (ℕ × List ℕ)) (log : LogInOrder) (full : ℕ) (answers : List Fields)
+    → AreAnswers files nodes labels log full [] answers → answers ≡ []
+no_answers files nodes labels log full [] are = refl
+no_answers files nodes labels log full (row ∷ rows) are = absurd are
 
 pub told_report : (opened : OpenedLog) (rules : AuditRules) (asked : List Asked) (rows : List Fields) → asked ≡ [] → AreRowsTold opened rules asked rows
-    → (report over : List Fields) × IsReport opened.nodes opened.log opened.full report × AreOverRows opened.nodes opened.log rules.limit over
-    × (rows ≡ (((report ++ taken_rows opened.unsent opened.resent) ++ missing_rows opened.log.events opened.skipped) ++ left_out_rows opened.left_out) ++ over)
+    → (report over : List Fields) × IsReport opened.files opened.nodes opened.log opened.full report × AreOverRows opened.files opened.nodes opened.log rules.limit over
+    × (rows ≡ (((report ++ taken_rows opened.unsent opened.resent) ++ missing_rows opened.files opened.log.events opened.skipped) ++ left_out_rows opened.files opened.left_out) ++ over)
 told_report opened rules asked rows nothing told =
     let alone : AreRowsTold opened rules [] rows = subst (λ (questions : List Asked). AreRowsTold opened rules questions rows) nothing told in
     let reported = alone.is_report in (
@@ -90,36 +101,36 @@ told_report opened rules asked rows nothing told =
       reported.3,
       alone.rows_are
           ∙ ap (λ (answers : List Fields). alone.report ++ answers)
-          (no_answers opened.nodes opened.labels opened.log opened.full alone.answers alone.are_answers)
+          (no_answers opened.files opened.nodes opened.labels opened.log opened.full alone.answers alone.are_answers)
           ∙ append-nil alone.report ∙ reported.4,
     )
 
 -- one report, if it is to be written, and one list of answers
-module _ (nodes : List (List ℕ)) (labels : List (ℕ × List ℕ)) (log other : LogInOrder) (full : ℕ)
+module _ (files : List FileMark) (nodes : List (List ℕ)) (labels : List (ℕ × List ℕ)) (log other : LogInOrder) (full : ℕ)
     (ordered : IsInOrder log) (other_ordered : IsInOrder other) (clocks : other.receives ≡ log.receives)
     (same : other.events ≡ log.events) (rise : LinesRise log.events) where
   one_report : (is_told : Bool) (unsent resent : Option ℕ) (skipped : Option Skipped) (left_out : List BadLine) (limit : Option ℕ) (rows others : List Fields)
-      → IsReportIf is_told nodes log full unsent resent skipped left_out limit rows → IsReportIf is_told nodes other full unsent resent skipped left_out limit others
+      → IsReportIf files is_told nodes log full unsent resent skipped left_out limit rows → IsReportIf files is_told nodes other full unsent resent skipped left_out limit others
       → others ≡ rows
   one_report false unsent resent skipped left_out limit rows others is other_is = other_is ∙ sym is
   one_report true unsent resent skipped left_out limit rows others (report, over, is_report, are_over, is) (other_report, other_over, other_is_report, other_are_over, other_is) =
       other_is
-      ∙ ap (λ (r : List Fields). (((r ++ taken_rows unsent resent) ++ missing_rows other.events skipped) ++ left_out_rows left_out) ++ other_over)
-      (reports_agree nodes log other full report other_report ordered other_ordered clocks same is_report other_is_report)
-      ∙ ap (λ (events : List LogEvent). (((report ++ taken_rows unsent resent) ++ missing_rows events skipped) ++ left_out_rows left_out) ++ other_over) same
-      ∙ ap (λ (r : List Fields). (((report ++ taken_rows unsent resent) ++ missing_rows log.events skipped) ++ left_out_rows left_out) ++ r)
-      (same_over_rows nodes log other ordered other_ordered clocks same rise limit over other_over are_over other_are_over)
+      ∙ ap (λ (r : List Fields). (((r ++ taken_rows unsent resent) ++ missing_rows files other.events skipped) ++ left_out_rows files left_out) ++ other_over)
+      (reports_agree files nodes log other full report other_report ordered other_ordered clocks same is_report other_is_report)
+      ∙ ap (λ (events : List LogEvent). (((report ++ taken_rows unsent resent) ++ missing_rows files events skipped) ++ left_out_rows files left_out) ++ other_over) same
+      ∙ ap (λ (r : List Fields). (((report ++ taken_rows unsent resent) ++ missing_rows files log.events skipped) ++ left_out_rows files left_out) ++ r)
+      (same_over_rows files nodes log other ordered other_ordered clocks same rise limit over other_over are_over other_are_over)
       ∙ sym is
 
-  same_answers : (questions : List Asked) (rows others : List Fields) → AreAnswers nodes labels log full questions rows
-      → AreAnswers nodes labels other full questions others → others ≡ rows
+  same_answers : (questions : List Asked) (rows others : List Fields) → AreAnswers files nodes labels log full questions rows
+      → AreAnswers files nodes labels other full questions others → others ≡ rows
   same_answers [] [] [] are others_are = refl
   same_answers [] [] (other_row ∷ others) are others_are = absurd others_are
   same_answers [] (row ∷ rows) others are others_are = absurd are
   same_answers (question ∷ questions) [] others are others_are = absurd are
   same_answers (question ∷ questions) (row ∷ rows) [] are others_are = absurd others_are
   same_answers (question ∷ questions) (row ∷ rows) (other_row ∷ others) are others_are =
-      ap (λ (r : Fields). r ∷ others) (answers_agree nodes labels log other full question row other_row ordered other_ordered clocks same rise are.0 others_are.0)
+      ap (λ (r : Fields). r ∷ others) (answers_agree files nodes labels log other full question row other_row ordered other_ordered clocks same rise are.0 others_are.0)
       ∙ ap (λ (rs : List Fields). row ∷ rs) (same_answers questions rows others are.1 others_are.1)
 
 module _ (text : LogText) (rules : AuditRules) (asked : List LogQuestion)
@@ -128,7 +139,7 @@ module _ (text : LogText) (rules : AuditRules) (asked : List LogQuestion)
   events = opened_events rules.records text.messages text.log.events
 
   abbrev IsBad : List ℕ → Type 0
-  IsBad bytes = IsDisorderShown events (Some before) (Some bytes)
+  IsBad bytes = IsDisorderShown rules.records.faults text.files text.message_names events (Some before) (Some bytes)
 
   abbrev Leaves : List ℕ → Outcome → Type 0
   Leaves bytes result = IsTold text rules asked (Some before) (Some bytes) result
@@ -140,20 +151,39 @@ module _ (text : LogText) (rules : AuditRules) (asked : List LogQuestion)
   told_or_bad bytes outcome.OverLimit told = inl told
   told_or_bad bytes (outcome.Broken over) told = inl told
 
-  not_both : (bytes other_bytes : List ℕ) (result : Outcome) → Leaves bytes result → IsBad other_bytes → ⊥
-  not_both bytes other_bytes result told (bad, none, shown) =
+  -- the events that are opened have an order
+  rest_causal : (bytes : List ℕ) (result : Outcome) (told : Leaves bytes result) → IsCausalOrder told.is_opened.ordered.rest told.opened.log.order
+  rest_causal bytes result told =
       let log = told.opened.log in
       let is = told.is_opened.ordered in
-      let back = unfilled events log.events is.filled in
-      faults_leave_no_order events none.fault none.is_fault (no_memory none.fault bad.why none.reason)
-      (filled_sound log.events events back is.in_order.messages) log.order (filled_causal log.events events back log.order is.in_order.causal)
+      filled_causal log.events is.rest (unfilled is.rest log.events is.filled) log.order is.in_order.causal
+
+  rest_sound : (bytes : List ℕ) (result : Outcome) (told : Leaves bytes result) → AreMessagesSound told.is_opened.ordered.rest
+  rest_sound bytes result told =
+      let log = told.opened.log in
+      let is = told.is_opened.ordered in
+      filled_sound log.events is.rest (unfilled is.rest log.events is.filled) is.in_order.messages
+
+  no_fault : (rest : List LogEvent) (kept : Option (List ℕ)) (lines : List BadLine) → IsPartOf rules.records.faults events rest kept lines
+      → AreMessagesSound rest → (order : List ℕ) → IsCausalOrder rest order
+      → (fault : OrderFault) → IsFaultOf events fault → IsRefused rules.records.faults fault → ¬ (fault ≡ Memory) → ⊥
+  no_fault rest None lines is sound order causal fault is_fault refused known =
+      faults_leave_no_order events fault is_fault known (subst AreMessagesSound is.0 sound) order
+      (subst (λ (es : List LogEvent). IsCausalOrder es order) is.0 causal)
+  no_fault rest (Some kept) lines is sound order causal fault is_fault refused known =
+      no_fault_of_part rules.records.faults events rest kept lines is fault is_fault refused known
+
+  not_both : (bytes other_bytes : List ℕ) (result : Outcome) → Leaves bytes result → IsBad other_bytes → ⊥
+  not_both bytes other_bytes result told (bad, none, shown) =
+      let is = told.is_opened.ordered in
+      no_fault is.rest told.is_opened.kept told.is_opened.lines is.part (rest_sound bytes result told) told.opened.log.order (rest_causal bytes result told)
+      none.fault none.is_fault none.refused none.known
 
   bad_bytes : IsBad after → IsBad others → others ≡ after
   bad_bytes (bad, none, shown) (other, other_none, other_shown) =
       let same : other_none.fault ≡ none.fault =
-      one_fault events other_none.fault none.fault (no_memory other_none.fault other.why other_none.reason) (no_memory none.fault bad.why none.reason)
-      other_none.is_fault none.is_fault in
-      other_shown ∙ ap (λ (row : List ℕ). before ++ row) (one_text events bad other none other_none same) ∙ sym shown
+      one_fault events other_none.fault none.fault other_none.known none.known other_none.is_fault none.is_fault in
+      other_shown ∙ ap (λ (row : List ℕ). before ++ row) (one_text rules.records.faults text.files text.message_names events bad other none other_none same) ∙ sym shown
 
   told_same : (result other_result : Outcome) → Leaves after result → Leaves others other_result → (other_result ≡ result) × (others ≡ after)
   told_same result other_result told other_told =
@@ -163,21 +193,25 @@ module _ (text : LogText) (rules : AuditRules) (asked : List LogQuestion)
       let is = told.is_opened.ordered in
       let other_is = other_told.is_opened.ordered in
       let clocks : other.receives ≡ log.receives = other_is.receives ∙ sym is.receives in
+      let parts = one_part rules.records.faults events is.rest other_is.rest told.is_opened.kept other_told.is_opened.kept told.is_opened.lines
+      other_told.is_opened.lines is.part other_is.part log.order (rest_causal after result told) other.order (rest_causal others other_result other_told) in
       let same : other.events ≡ log.events =
-      given_stamps_agree events log other clocks is.in_order other_is.in_order is.filled other_is.filled in
+      given_stamps_agree is.rest log other clocks is.in_order other_is.in_order is.filled
+      (subst (λ (es : List LogEvent). AreFilled es other.events) parts.1 other_is.filled) in
       let one = one_log log other clocks is.in_order other_is.in_order same in
-      let log_rise : LinesRise log.events = rise_filled events log.events is.filled (rise_kept rules.records.unsent_local
-      (resent_apart rules.records.resent text.messages text.log.events) (rise_apart rules.records.resent text.messages text.log.events rise)) in
+      let log_rise : LinesRise log.events = rise_filled is.rest log.events is.filled (part_rises _ _ _ _ _ is.part
+      (rise_kept rules.records.unsent_local
+      (resent_apart rules.records.resent text.messages text.log.events) (rise_apart rules.records.resent text.messages text.log.events rise))) in
       let first = told.told in
       let second : AreRowsTold (record opened { log = other }) rules (all_asked opened.questions asked) other_told.rows =
       subst (λ (o : OpenedLog). AreRowsTold o rules (all_asked o.questions asked) other_told.rows)
-      (opened_alike rules.records text opened other_told.opened told.is_opened other_told.is_opened) other_told.told in
+      (opened_alike rules.records text opened other_told.opened told.is_opened other_told.is_opened parts.0 parts.2) other_told.told in
       let questions = all_asked opened.questions asked in
       let report =
-      one_report opened.nodes opened.labels log other opened.full is.in_order other_is.in_order clocks same log_rise (is_reported rules questions)
+      one_report opened.files opened.nodes opened.labels log other opened.full is.in_order other_is.in_order clocks same log_rise (is_reported rules questions)
       opened.unsent opened.resent opened.skipped opened.left_out rules.limit first.report second.report first.is_report second.is_report in
       let answers =
-      same_answers opened.nodes opened.labels log other opened.full is.in_order other_is.in_order clocks same log_rise questions
+      same_answers opened.files opened.nodes opened.labels log other opened.full is.in_order other_is.in_order clocks same log_rise questions
       first.answers second.answers first.are_answers second.are_answers in
       let rows : other_told.rows ≡ told.rows =
       second.rows_are ∙ ap (λ (r : List Fields). r ++ second.answers) report ∙ ap (λ (r : List Fields). first.report ++ r) answers

@@ -1,12 +1,14 @@
 -- Which rows are told of a log.
-use Rattle.std.proofs.Common.{◌≡◌, ◌∙◌, ◌==◌, true, false, ℕ, inl, inr, List, [], ◌∷◌, Option, length, refl, subst, sym}
+use Rattle.std.proofs.Common.{◌≡◌, ◌∙◌, ◌==◌, true, false, ℕ, inl, inr, List, [], ◌∷◌, ◌++◌, Option, ap, length, refl, sym}
 use Rattle.std.specs.Io.KnownBytes.{Appends}
+use Rattle.hlc_log_text.specs.declared.bad_log.BadLine.{BadLine}
 use Rattle.hlc_log_text.specs.declared.log_rules.LogRules.{LogRules}
 use Rattle.hlc_log_text.specs.declared.log_text.LogText.{LogText}
 use Rattle.hlc_log_text.specs.declared.question.LogQuestion.{LogQuestion}
-use Rattle.hlc_open_log.specs.Opened.{IsOpenedOf, OpenedLog}
+use Rattle.hlc_open_log.specs.Opened.{IsOpenedOf, OpenedLog, labels_kept}
 use Rattle.hlc_open_log.specs.Unopened.{ExplainsOpenFault, bad_text}
 use Rattle.hlc_open_log.specs.declared.bad_input.BadInput.{BadInput}
+use Rattle.hlc_open_log.specs.declared.bad_input.BadInput.TheVariants.{Events, Records}
 use Rattle.hlc_open_log.specs.declared.fault.OpenFault.TheVariants.{Bad}
 use Rattle.hlc_log_audit.specs.Audit.{IsAudited, IsTextAudited, IsTold, all_asked, is_reported}
 use Rattle.hlc_log_audit.specs.declared.outcome.Outcome.{Outcome}
@@ -28,19 +30,21 @@ told_is_audited text rules asked before after (Broken over) told = told
 told_is_audited text rules asked before after BadLog told = absurd told.outcome
 
 -- two logs that are opened of one text differ in their orders alone
-pub opened_alike : (rules : LogRules) (text : LogText) (one other : OpenedLog) → IsOpenedOf rules text one → IsOpenedOf rules text other
-    → other ≡ record one { log = other.log }
-opened_alike rules text one other is other_is =
+pub opened_alike : (rules : LogRules) (text : LogText) (one other : OpenedLog) (is : IsOpenedOf rules text one) (other_is : IsOpenedOf rules text other)
+    → other_is.kept ≡ is.kept → other_is.lines ≡ is.lines → other ≡ record one { log = other.log }
+opened_alike rules text one other is other_is kept lines =
+    let files : other.files ≡ one.files = other_is.files ∙ sym is.files in
     let nodes : other.nodes ≡ one.nodes = other_is.nodes ∙ sym is.nodes in
-    let labels : other.labels ≡ one.labels = other_is.labels ∙ sym is.labels in
+    let labels : other.labels ≡ one.labels = other_is.labels ∙ ap (λ (k : Option (List ℕ)). labels_kept k text.labels) kept ∙ sym is.labels in
     let questions : other.questions ≡ one.questions = other_is.questions ∙ sym is.questions in
     let unsent : other.unsent ≡ one.unsent = other_is.ordered.taken ∙ sym is.ordered.taken in
     let resent : other.resent ≡ one.resent = other_is.ordered.again ∙ sym is.ordered.again in
     let skipped : other.skipped ≡ one.skipped = other_is.skipped ∙ sym is.skipped in
-    let left_out : other.left_out ≡ one.left_out = other_is.left_out ∙ sym is.left_out in
+    let left_out : other.left_out ≡ one.left_out = other_is.left_out ∙ ap (λ (more : List BadLine). text.left_out.items ++ more) lines ∙ sym is.left_out in
     let full : other.full ≡ one.full = other_is.full ∙ sym is.full in
     λ i. record {
       log = other.log;
+      files = files i;
       nodes = nodes i;
       labels = labels i;
       questions = questions i;
@@ -51,10 +55,10 @@ opened_alike rules text one other is other_is =
       full = full i;
     }
 
--- bad input of which the row was written was audited
+-- bad input of which the rows were written was audited
 pub bad_is_audited : (rules : AuditRules) (most : ℕ) (asked : List LogQuestion) (bytes before after : Option (List ℕ)) (bad : BadInput)
     → ExplainsOpenFault rules.records most bytes (Bad bad) → Appends before after (bad_text bad) → IsAudited rules most asked bytes before after BadLog
-bad_is_audited rules most asked bytes before after bad (inl (line, read, is)) shown =
-    inr (record { bad = line; read = read; text = subst (λ (b : BadInput). Appends before after (bad_text b)) is shown; is_bad = refl })
-bad_is_audited rules most asked bytes before after bad (inr (text, read, none)) shown =
-    inl (record { text = text; read = read; left = (bad, none, shown) })
+bad_is_audited rules most asked bytes before after (Records records) read shown =
+    inr (record { told = records.items; read = read; text = shown; is_bad = refl })
+bad_is_audited rules most asked bytes before after (Events events) (text, read, none) shown =
+    inl (record { text = text; read = read; left = (events.items, none, shown) })

@@ -6,10 +6,14 @@ use Rattle.hlc_causes.specs.declared.answers.Cause.TheVariants.{Behind, NotAbove
 use Rattle.hlc_stamp.specs.declared.id.EventId.{EventId}
 use Rattle.hlc_csv.specs.Rows.{Fields, text_of}
 use Rattle.hlc_log.specs.declared.log_event.LogEvent.{LogEvent}
+use Rattle.hlc_log_text.specs.Files.{line_text}
 use Rattle.hlc_log_text.specs.StampForms.{greatest_c}
+use Rattle.hlc_log_text.specs.declared.file_mark.FileMark.{FileMark}
 use Rattle.hlc_log_text.specs.Question.{Asked, plain_asked}
-use Rattle.hlc_log_text.specs.ReadLog.{IsReadUpToBad, IsReadWhole}
+use Rattle.hlc_log_text.specs.ReadLog.{IsReadWhole}
 use Rattle.hlc_log_text.specs.declared.bad_log.BadLine.{BadLine}
+use Rattle.hlc_log_text.specs.declared.bad_log.BadRecord.{BadRecord}
+use Rattle.hlc_log_text.specs.declared.fault_rule.FaultRule.{FaultRule}
 use Rattle.hlc_log_text.specs.declared.log_rules.LogRules.{LogRules}
 use Rattle.hlc_log_text.specs.declared.log_text.LogText.{LogText}
 use Rattle.hlc_log_text.specs.declared.question.LogQuestion.{LogQuestion}
@@ -23,8 +27,8 @@ use Rattle.hlc_log_report.specs.Unread.{unread_count}
 use Rattle.hlc_log_report.specs.Unstamped.{unstamped_count}
 use Rattle.hlc_log_report.specs.declared.counts.Counts.{Counts}
 use Rattle.hlc_open_log.specs.Opened.{IsOpened, IsOpenedOf, OpenedLog, opened_events}
-use Rattle.hlc_open_log.specs.Unopened.{HasNoOrder, bad_record, bad_text}
-use Rattle.hlc_open_log.specs.declared.bad_input.BadInput.{BadInput}
+use Rattle.hlc_open_log.specs.Unopened.{AreRecordsBad, HasNoOrder, events_text, records_text}
+use Rattle.hlc_open_log.specs.declared.bad_event.BadEvent.{BadEvent}
 use Rattle.hlc_log_audit.specs.LeftOut.{left_out_rows}
 use Rattle.hlc_log_audit.specs.OverLimit.{IsClaimOver}
 use Rattle.hlc_log_audit.specs.Report.{AreOverRows, IsReport}
@@ -59,13 +63,13 @@ abbrev pub unstamped_row : List LogEvent → List Fields
 unstamped_row events = counted_row (codes "unstamped") (unstamped_count events)
 
 -- the row of how many records were left out of a log, with the line of the first, if some were
-abbrev pub skipped_row : Option Skipped → List Fields
-skipped_row None = []
-skipped_row (Some skipped) = (codes "skipped" ∷ decimal skipped.count ∷ decimal skipped.line ∷ []) ∷ []
+abbrev pub skipped_row : List FileMark → Option Skipped → List Fields
+skipped_row files None = []
+skipped_row files (Some skipped) = (codes "skipped" ∷ decimal skipped.count ∷ line_text files skipped.line ∷ []) ∷ []
 
 -- the rows of what the log doesn't tell of events, and of what was left out of it
-abbrev pub missing_rows : List LogEvent → Option Skipped → List Fields
-missing_rows events skipped = outside_row events ++ (unread_row events ++ (unstamped_row events ++ skipped_row skipped))
+abbrev pub missing_rows : List FileMark → List LogEvent → Option Skipped → List Fields
+missing_rows files events skipped = outside_row events ++ (unread_row events ++ (unstamped_row events ++ skipped_row files skipped))
 
 -- the stamp that the log tells of the event at k is behind its reading, or not above a direct predecessor's, by the stamps that it saw claimed
 abbrev pub IsOutOfOrder : LogInOrder → (full k : ℕ) → Type 0
@@ -126,25 +130,26 @@ is_reported rules (question ∷ questions) = rules.report
 
 -- rows are the report on a log in order, with how many receives were taken as local, how many sends sent again, what isn't told of how many events,
 -- which records were left out, which of these are bad, and which claims are over the limit, or there are none if it isn't written
-abbrev pub IsReportIf : Bool → (nodes : List (List ℕ)) → LogInOrder → (full : ℕ) → (unsent resent : Option ℕ) → Option Skipped → List BadLine
+abbrev pub IsReportIf : List FileMark → Bool → (nodes : List (List ℕ)) → LogInOrder → (full : ℕ) → (unsent resent : Option ℕ) → Option Skipped → List BadLine
     → (limit : Option ℕ) → List Fields → Type 0
-IsReportIf false nodes log full unsent resent skipped left_out limit rows = rows ≡ []
-IsReportIf true nodes log full unsent resent skipped left_out limit rows =
-    (report over : List Fields) × IsReport nodes log full report × AreOverRows nodes log limit over
-    × (rows ≡ (((report ++ taken_rows unsent resent) ++ missing_rows log.events skipped) ++ left_out_rows left_out) ++ over)
+IsReportIf files false nodes log full unsent resent skipped left_out limit rows = rows ≡ []
+IsReportIf files true nodes log full unsent resent skipped left_out limit rows =
+    (report over : List Fields) × IsReport files nodes log full report × AreOverRows files nodes log limit over
+    × (rows ≡ (((report ++ taken_rows unsent resent) ++ missing_rows files log.events skipped) ++ left_out_rows files left_out) ++ over)
 
 -- rows are the report on an opened log, if it is to be written, and the answers to what is asked
 pub record AreRowsTold (opened : OpenedLog) (rules : AuditRules) (asked : List Asked) (rows : List Fields) : Type 0 where
   pub report : List Fields
-  pub is_report : IsReportIf (is_reported rules asked) opened.nodes opened.log opened.full opened.unsent opened.resent opened.skipped opened.left_out
-      rules.limit report
+  pub is_report : IsReportIf opened.files (is_reported rules asked) opened.nodes opened.log opened.full opened.unsent opened.resent opened.skipped
+      opened.left_out rules.limit report
   pub answers : List Fields
-  pub are_answers : AreAnswers opened.nodes opened.labels opened.log opened.full asked answers
+  pub are_answers : AreAnswers opened.files opened.nodes opened.labels opened.log opened.full asked answers
   pub rows_are : rows ≡ report ++ answers
 
--- events have no causal order, and the writer got the row that says why
-abbrev pub IsDisorderShown : List LogEvent → (before after : Option (List ℕ)) → Type 0
-IsDisorderShown events before after = (bad : BadInput) × HasNoOrder events bad × Appends before after (bad_text bad)
+-- events of some files, whose messages have these names, have no causal order, and the writer got the rows that say why
+abbrev pub IsDisorderShown : FaultRule → List FileMark → (names : List (List ℕ)) → List LogEvent → (before after : Option (List ℕ)) → Type 0
+IsDisorderShown rule files names events before after =
+    (told : List BadEvent) × HasNoOrder rule files names events told × Appends before after (events_text told)
 
 -- a log that was read was opened, and the writer got the rows that tell of it, with this outcome
 pub record IsTold (text : LogText) (rules : AuditRules) (asked : List LogQuestion) (before after : Option (List ℕ)) (result : Outcome) : Type 0 where
@@ -155,9 +160,10 @@ pub record IsTold (text : LogText) (rules : AuditRules) (asked : List LogQuestio
   pub written : Appends before after (text_of rows)
   pub outcome : IsOutcome rules opened.log result
 
--- what the audit of a log that was read left, with this outcome: the row that says why it has no order, or what is told of it
+-- what the audit of a log that was read left, with this outcome: the rows that say why it has no order, or what is told of it
 abbrev pub IsTextAudited : LogText → AuditRules → List LogQuestion → (before after : Option (List ℕ)) → Outcome → Type 0
-IsTextAudited text rules asked before after outcome.BadLog = IsDisorderShown (opened_events rules.records text.messages text.log.events) before after
+IsTextAudited text rules asked before after outcome.BadLog =
+    IsDisorderShown rules.records.faults text.files text.message_names (opened_events rules.records text.messages text.log.events) before after
 IsTextAudited text rules asked before after outcome.Sound = IsTold text rules asked before after outcome.Sound
 IsTextAudited text rules asked before after outcome.OverLimit = IsTold text rules asked before after outcome.OverLimit
 IsTextAudited text rules asked before after (outcome.Broken over) = IsTold text rules asked before after (outcome.Broken over)
@@ -168,11 +174,11 @@ pub record IsWholeAudited (rules : AuditRules) (most : ℕ) (asked : List LogQue
   pub read : IsReadWhole rules.records most bytes text
   pub left : IsTextAudited text rules asked before after result
 
--- the bytes begin with records of a log and then one that is none, and the writer got one row on that
+-- records of the bytes are bad, and the writer got the rows of those that are told
 pub record IsBadTextShown (rules : AuditRules) (most : ℕ) (bytes before after : Option (List ℕ)) (result : Outcome) : Type 0 where
-  pub bad : BadLine
-  pub read : IsReadUpToBad rules.records most bytes bad
-  pub text : Appends before after (bad_text (bad_record bad))
+  pub told : List BadRecord
+  pub read : AreRecordsBad rules.records most bytes told
+  pub text : Appends before after (records_text told)
   pub is_bad : result ≡ outcome.BadLog
 
 -- what the audit of some bytes left, with this outcome, and with these questions asked beside the log

@@ -1,4 +1,5 @@
 -- The laws of answers and reports.
+use Rattle.hlc_log_text.specs.declared.file_mark.FileMark.{FileMark}
 use Rattle.std.specs.List.Sorted.{IsPermutation}
 use Rattle.std.specs.Prelude.{◌≡◌, Bool, ℕ, ◌<◌, List, ◌∷◌, ◌++◌, Some, codes, length, map, option_map, true}
 use Rattle.hlc_stamp.specs.Order.{Pair}
@@ -63,20 +64,22 @@ DriftsAgree = (log other : LogInOrder) (to back : ℕ → ℕ) → TellTheSame l
 
 -- a log has one answer to each question, whichever causal order was found for it
 abbrev pub AnswersAgree : Type 0
-AnswersAgree = (nodes : List (List ℕ)) (labels : List (ℕ × List ℕ)) (log other : LogInOrder) (full : ℕ) (question : Asked) (row other_row : Fields) →
+AnswersAgree = (files : List FileMark) (nodes : List (List ℕ)) (labels : List (ℕ × List ℕ))
+    (log other : LogInOrder) (full : ℕ) (question : Asked) (row other_row : Fields) →
     IsInOrder log → IsInOrder other → other.receives ≡ log.receives → other.events ≡ log.events → LinesRise log.events →
-    IsAnswer nodes labels log full question row → IsAnswer nodes labels other full question other_row → other_row ≡ row
+    IsAnswer files nodes labels log full question row → IsAnswer files nodes labels other full question other_row → other_row ≡ row
 
 -- rows report that nothing is wrong: all stamps that are told are counted least, and the nodes, messages and skews follow
-pub record IsCleanReport (nodes : List (List ℕ)) (log : LogInOrder) (rows : List Fields) : Type 0 where
+pub record IsCleanReport (files : List FileMark) (nodes : List (List ℕ)) (log : LogInOrder) (rows : List Fields) : Type 0 where
   pub skews : List Fields
-  pub are_skews : AreSkewRows nodes log skews
-  pub rows_are : rows ≡ count_row (codes "least") (told_count log) ++ (node_rows nodes log ++ (message_row (message_counts log) ∷ skews))
+  pub are_skews : AreSkewRows files nodes log skews
+  pub rows_are : rows ≡ count_row (codes "least") (told_count log) ++ (node_rows files nodes log ++ (message_row (message_counts log) ∷ skews))
 
 -- so does the report on a log that claims the least stamps, and whose messages carried what it claims
 abbrev pub LeastStampsReportClean : Type 0
-LeastStampsReportClean = (nodes : List (List ℕ)) (log : LogInOrder) (full : ℕ) (rows : List Fields) → IsInOrder log → claimed_of log ≡ log.least →
-    IsCarriedRightly log → IsReport nodes log full rows → IsCleanReport nodes log rows
+LeastStampsReportClean = (files : List FileMark) (nodes : List (List ℕ))
+    (log : LogInOrder) (full : ℕ) (rows : List Fields) → IsInOrder log → claimed_of log ≡ log.least →
+    IsCarriedRightly log → IsReport files nodes log full rows → IsCleanReport files nodes log rows
 
 -- and such a log is sound, unless a drift exceeds the limit
 abbrev pub LeastStampsAreSound : Type 0
@@ -85,14 +88,14 @@ LeastStampsAreSound = (log : LogInOrder) (rules : AuditRules) (result : Outcome)
 
 -- a log has one report, whichever causal order was found for it
 abbrev pub ReportsAgree : Type 0
-ReportsAgree = (nodes : List (List ℕ)) (log other : LogInOrder) (full : ℕ) (rows others : List Fields) →
+ReportsAgree = (files : List FileMark) (nodes : List (List ℕ)) (log other : LogInOrder) (full : ℕ) (rows others : List Fields) →
     IsInOrder log → IsInOrder other → other.receives ≡ log.receives → other.events ≡ log.events →
-    IsReport nodes log full rows → IsReport nodes other full others → others ≡ rows
+    IsReport files nodes log full rows → IsReport files nodes other full others → others ≡ rows
 
 -- and logs with the same events in different orders have the same rows, up to their order
 abbrev pub RearrangedReportsAgree : Type 0
-RearrangedReportsAgree = (nodes : List (List ℕ)) (log other : LogInOrder) (to back : ℕ → ℕ) (full : ℕ) (rows others : List Fields) →
-    IsRearranged log other to back → IsReport nodes log full rows → IsReport nodes other full others →
+RearrangedReportsAgree = (files : List FileMark) (nodes : List (List ℕ)) (log other : LogInOrder) (to back : ℕ → ℕ) (full : ℕ) (rows others : List Fields) →
+    IsRearranged log other to back → IsReport files nodes log full rows → IsReport files nodes other full others →
     IsPermutation rows others
 
 -- logs that tell the same have one outcome

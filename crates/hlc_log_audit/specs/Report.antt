@@ -1,5 +1,5 @@
 -- The rows of the report on a log.
-use Rattle.std.specs.Prelude.{◌≡◌, ◌==◌, ◌-ℤ◌, ℕ, ◌<◌, List, [], ◌∷◌, ◌++◌, IfSome, Option, Some, None, codes, count_by, decimal, if◌then◌else◌, length, map, option_map, pos, slice_index_or}
+use Rattle.std.specs.Prelude.{◌≡◌, ◌==◌, ◌-ℤ◌, ℕ, ◌<◌, Bool, List, [], ◌∷◌, ◌++◌, IfSome, Option, Some, None, codes, count_by, decimal, if◌then◌else◌, length, map, option_map, pos, slice_index_or}
 use Rattle.std.specs.Bool.{then_some}
 use Rattle.std.specs.Fmt.{signed_decimal}
 use Rattle.std.specs.List.{flat_map}
@@ -12,16 +12,20 @@ use Rattle.hlc_csv.specs.Rows.{Fields, field_of}
 use Rattle.hlc_log.specs.CausalOrder.{place_at}
 use Rattle.hlc_log.specs.Events.{event_at}
 use Rattle.hlc_log.specs.OrderSkeleton.{index_in}
+use Rattle.hlc_log.specs.declared.log_event.LogEvent.{LogEvent}
+use Rattle.hlc_log_text.specs.Files.{line_text}
 use Rattle.hlc_log_text.specs.LogText.{name_of}
-use Rattle.hlc_log_audit.specs.Answers.{claimed_fields, drift_fields, drift_in, if_event}
+use Rattle.hlc_log_text.specs.declared.file_mark.FileMark.{FileMark}
+use Rattle.hlc_log_audit.specs.Answers.{claimed_fields, drift_fields, drift_in, if_event, told_in}
 use Rattle.hlc_log_audit.specs.Lines.{position_on}
 use Rattle.hlc_log_audit.specs.OverLimit.{AreOvers}
 use Rattle.hlc_log_audit.specs.declared.over.Over.{Over}
-use Rattle.hlc_log_report.specs.Counts.{AreCounted}
-use Rattle.hlc_log_report.specs.Found.{NamesCausesIn}
-use Rattle.hlc_log_report.specs.InOrder.{LogInOrder, line_in, reading_told, skeleton_of, wrong_of}
+use Rattle.hlc_log_report.specs.Counts.{AreCounted, are_all_ahead}
+use Rattle.hlc_log_report.specs.Found.{NamesCausesIn, is_swapped_in}
+use Rattle.hlc_log_report.specs.InOrder.{LogInOrder, reading_told, skeleton_of, wrong_of}
 use Rattle.hlc_log_report.specs.Messages.{message_counts}
 use Rattle.hlc_log_report.specs.Skew.{AreSkews, Skews}
+use Rattle.hlc_log_report.specs.UnitFactor.{unit_factor}
 use Rattle.hlc_log_report.specs.declared.counts.Counts.{Counts}
 use Rattle.hlc_log_report.specs.declared.messages.MessageCounts.{MessageCounts}
 use Rattle.hlc_log_report.specs.declared.skew.Skew.{Skew}
@@ -37,12 +41,16 @@ count_rows counts =
     count_row (codes "behind") counts.behind ++ (count_row (codes "not-above") counts.not_above ++ (count_row (codes "low") counts.low
     ++ (count_row (codes "least") counts.least ++ (count_row (codes "ahead") counts.ahead ++ count_row (codes "carried") counts.rolled_over))))
 
--- the rule that was broken
-abbrev pub cause_fields : LogInOrder → Cause → Fields
-cause_fields log cause.Behind = codes "behind" ∷ []
-cause_fields log (cause.NotAbovePrevious d) = codes "not-above" ∷ decimal (line_in log d.0) ∷ []
-cause_fields log (cause.NotAboveSend d) = codes "not-above" ∷ decimal (line_in log d.0) ∷ []
-cause_fields log (cause.Ahead p) = codes "ahead" ∷ decimal p.l ∷ decimal p.c ∷ []
+-- the word that is said of an event that stands swapped with its node's event before it
+abbrev pub swapped_fields : Bool → Fields
+swapped_fields swapped = if swapped then codes "swapped" ∷ [] else []
+
+-- the rule that was broken, at an event that stands swapped so or doesn't
+abbrev pub cause_fields : List FileMark → LogInOrder → (swapped : Bool) → Cause → Fields
+cause_fields files log swapped cause.Behind = codes "behind" ∷ []
+cause_fields files log swapped (cause.NotAbovePrevious d) = codes "not-above" ∷ told_in files log d.0 ∷ swapped_fields swapped
+cause_fields files log swapped (cause.NotAboveSend d) = codes "not-above" ∷ told_in files log d.0 ∷ []
+cause_fields files log swapped (cause.Ahead p) = codes "ahead" ∷ decimal p.l ∷ decimal p.c ∷ []
 
 -- these are the rules that the event at a place of the log, wherever it stands in the order, breaks: none if the log tells no stamp of it
 abbrev pub NamesCausesAt : LogInOrder → (full e : ℕ) → Causes → Type 0
@@ -63,57 +71,62 @@ NamesEvent log (cause.NotAbovePrevious d) = d.0 < length log.events
 NamesEvent log (cause.NotAboveSend d) = d.0 < length log.events
 NamesEvent log _ = Unit {0}
 
--- so are those that some causes name
+-- the direct predecessors that some causes name are events
 pub record NameEvents (log : LogInOrder) (causes : Causes) : Type 0 where
   pub previous : IfSome causes.not_above_previous (λ d. d.0 < length log.events)
   pub send : IfSome causes.not_above_send (λ d. d.0 < length log.events)
 
--- the row of a rule that the event at a place breaks
-abbrev pub cause_fields_at : (nodes : List (List ℕ)) → LogInOrder → ℕ → Cause → Fields
-cause_fields_at nodes log e found =
-    codes "cause" ∷ decimal (event_at log.events e).line ∷ name_of nodes (event_at log.events e).node.0 ∷ cause_fields log found
+-- the row of a rule that the event at a place breaks, which stands swapped or doesn't
+abbrev pub cause_fields_at : List FileMark → (nodes : List (List ℕ)) → LogInOrder → (swapped : Bool) → ℕ → Cause → Fields
+cause_fields_at files nodes log swapped e found =
+    codes "cause" ∷ line_text files (event_at log.events e).line ∷ name_of nodes (event_at log.events e).node.0 ∷ cause_fields files log swapped found
+
+-- whether the event at a place stands swapped with its node's event before it
+abbrev pub swapped_at : LogInOrder → (full e : ℕ) → Bool
+swapped_at log full e = is_swapped_in log full (index_in log.order e)
 
 -- the row of a rule, if the event at a place breaks it
-abbrev pub cause_row : (nodes : List (List ℕ)) → LogInOrder → ℕ → Option Cause → List Fields
-cause_row nodes log e None = []
-cause_row nodes log e (Some found) = cause_fields_at nodes log e found ∷ []
+abbrev pub cause_row : List FileMark → (nodes : List (List ℕ)) → LogInOrder → (full e : ℕ) → Option Cause → List Fields
+cause_row files nodes log full e None = []
+cause_row files nodes log full e (Some found) = cause_fields_at files nodes log (swapped_at log full e) e found ∷ []
 
 -- where the send stands of what the event at a place receives, if its message carried another stamp than the log claims there
 abbrev pub wrong_at : LogInOrder → ℕ → Option ℕ
 wrong_at log e = wrong_of log (index_in log.order e)
 
 -- the row of the event at a place whose message carried another stamp than such a send, if there is one
-abbrev pub wrong_row : (nodes : List (List ℕ)) → LogInOrder → ℕ → Option ℕ → List Fields
-wrong_row nodes log e None = []
-wrong_row nodes log e (Some d) =
-    (codes "cause" ∷ decimal (event_at log.events e).line ∷ name_of nodes (event_at log.events e).node.0 ∷ codes "carried" ∷ decimal (line_in log d) ∷ []) ∷ []
+abbrev pub wrong_row : List FileMark → (nodes : List (List ℕ)) → LogInOrder → ℕ → Option ℕ → List Fields
+wrong_row files nodes log e None = []
+wrong_row files nodes log e (Some d) =
+    (codes "cause" ∷ line_text files (event_at log.events e).line ∷ name_of nodes (event_at log.events e).node.0 ∷ codes "carried"
+    ∷ told_in files log d ∷ []) ∷ []
 
 -- the rows of the event at a place: one for each rule that it breaks, and one if its message carried another stamp than its send
-abbrev pub cause_rows_at : (nodes : List (List ℕ)) → LogInOrder → ℕ → Causes → List Fields
-cause_rows_at nodes log e causes =
-    cause_row nodes log e (then_some causes.behind cause.Behind)
-    ++ (cause_row nodes log e (option_map (λ d. cause.NotAbovePrevious d) causes.not_above_previous)
-    ++ (cause_row nodes log e (option_map (λ d. cause.NotAboveSend d) causes.not_above_send)
-    ++ (cause_row nodes log e (option_map (λ p. cause.Ahead p) causes.ahead)
-    ++ wrong_row nodes log e (wrong_at log e))))
+abbrev pub cause_rows_at : List FileMark → (nodes : List (List ℕ)) → LogInOrder → (full e : ℕ) → Causes → List Fields
+cause_rows_at files nodes log full e causes =
+    cause_row files nodes log full e (then_some causes.behind cause.Behind)
+    ++ (cause_row files nodes log full e (option_map (λ d. cause.NotAbovePrevious d) causes.not_above_previous)
+    ++ (cause_row files nodes log full e (option_map (λ d. cause.NotAboveSend d) causes.not_above_send)
+    ++ (cause_row files nodes log full e (option_map (λ p. cause.Ahead p) causes.ahead)
+    ++ wrong_row files nodes log e (wrong_at log e))))
 
 -- the causes, in the order of the lines
-abbrev pub cause_rows : (nodes : List (List ℕ)) → LogInOrder → List Causes → List Fields
-cause_rows nodes log causes =
-    flat_map (λ e. cause_rows_at nodes log e (slice_index_or causes e no_causes)) (places_below (length log.events))
+abbrev pub cause_rows : List FileMark → (nodes : List (List ℕ)) → LogInOrder → (full : ℕ) → List Causes → List Fields
+cause_rows files nodes log full causes =
+    flat_map (λ e. cause_rows_at files nodes log full e (slice_index_or causes e no_causes)) (places_below (length log.events))
 
 -- how many events a node has
 abbrev pub events_at : LogInOrder → ℕ → ℕ
 events_at log node = count_by (λ event. event.node == node) (skeleton_of log)
 
 -- the row of a node
-abbrev pub node_row : (nodes : List (List ℕ)) → LogInOrder → ℕ → Fields
-node_row nodes log node =
-    codes "node" ∷ name_of nodes node ∷ decimal (events_at log node) ∷ drift_fields log (drift_in log node)
+abbrev pub node_row : List FileMark → (nodes : List (List ℕ)) → LogInOrder → ℕ → Fields
+node_row files nodes log node =
+    codes "node" ∷ name_of nodes node ∷ decimal (events_at log node) ∷ drift_fields files log (drift_in log node)
 
 -- the nodes, in the order in which the log first names them
-abbrev pub node_rows : (nodes : List (List ℕ)) → LogInOrder → List Fields
-node_rows nodes log = map (node_row nodes log) (places_below (length nodes))
+abbrev pub node_rows : List FileMark → (nodes : List (List ℕ)) → LogInOrder → List Fields
+node_rows files nodes log = map (node_row files nodes log) (places_below (length nodes))
 
 -- the row of the messages
 abbrev pub message_row : MessageCounts → Fields
@@ -121,10 +134,10 @@ message_row counts =
     codes "messages" ∷ decimal counts.sent ∷ decimal counts.received ∷ decimal counts.repeated ∷ decimal counts.unreceived ∷ []
 
 -- the row of a skew: how far the first clock is ahead, with its sign, and the lines of the message that shows it
-abbrev pub skew_fields : (nodes : List (List ℕ)) → LogInOrder → (from to : ℕ) → Skew → Fields
-skew_fields nodes log from to skew =
+abbrev pub skew_fields : List FileMark → (nodes : List (List ℕ)) → LogInOrder → (from to : ℕ) → Skew → Fields
+skew_fields files nodes log from to skew =
     codes "skew" ∷ name_of nodes from ∷ name_of nodes to ∷ signed_decimal (pos skew.sent_at -ℤ pos skew.delivered_at)
-    ∷ decimal (line_in log skew.send.0) ∷ decimal (line_in log skew.delivery.0) ∷ []
+    ∷ told_in files log skew.send.0 ∷ told_in files log skew.delivery.0 ∷ []
 
 -- the message that shows a skew has its two events
 pub record IsSkewOfEvents (log : LogInOrder) (skew : Skew) : Type 0 where
@@ -132,28 +145,28 @@ pub record IsSkewOfEvents (log : LogInOrder) (skew : Skew) : Type 0 where
   pub delivery : skew.delivery.0 < length log.events
 
 -- the row of the skew of two nodes
-abbrev pub skew_row : (nodes : List (List ℕ)) → LogInOrder → SkewNodes × Skew → Fields
-skew_row nodes log skew = skew_fields nodes log skew.0.from.0 skew.0.to.0 skew.1
+abbrev pub skew_row : List FileMark → (nodes : List (List ℕ)) → LogInOrder → SkewNodes × Skew → Fields
+skew_row files nodes log skew = skew_fields files nodes log skew.0.from.0 skew.0.to.0 skew.1
 
 -- these are the rows of the skews, in the order of the nodes to which messages went, and of those from which they came
-abbrev pub AreSkewRows : (nodes : List (List ℕ)) → LogInOrder → List Fields → Type 0
-AreSkewRows nodes log rows = (skews : Skews) × AreSkews (skeleton_of log) (reading_told log) skews × (rows ≡ map (skew_row nodes log) skews)
+abbrev pub AreSkewRows : List FileMark → (nodes : List (List ℕ)) → LogInOrder → List Fields → Type 0
+AreSkewRows files nodes log rows = (skews : Skews) × AreSkews (skeleton_of log) (reading_told log) skews × (rows ≡ map (skew_row files nodes log) skews)
 
 -- the line where the l that the event of a line claims came in: the first on the way that answers the question `claimed`
-abbrev pub origin_field : LogInOrder → (line : ℕ) → List ℕ
-origin_field log line = field_of (if_event (position_on log line) (claimed_fields log line)) 4
+abbrev pub origin_field : List FileMark → LogInOrder → (line : ℕ) → List ℕ
+origin_field files log line = field_of (if_event (position_on log line) (claimed_fields files log line)) 4
 
 -- the row of a node whose claims are over a limit: how many, the line of the first, how far the furthest is above its reading, and where its l
 -- came in
-abbrev pub over_fields : (nodes : List (List ℕ)) → LogInOrder → (node : ℕ) → Over → Fields
-over_fields nodes log node over =
-    codes "over" ∷ name_of nodes node ∷ decimal over.claims ∷ decimal (event_at log.events over.first.0).line ∷ decimal over.ahead
-    ∷ origin_field log (event_at log.events over.furthest.0).line ∷ []
+abbrev pub over_fields : List FileMark → (nodes : List (List ℕ)) → LogInOrder → (node : ℕ) → Over → Fields
+over_fields files nodes log node over =
+    codes "over" ∷ name_of nodes node ∷ decimal over.claims ∷ line_text files (event_at log.events over.first.0).line ∷ decimal over.ahead
+    ∷ origin_field files log (event_at log.events over.furthest.0).line ∷ []
 
 -- the row of a node, if its claims are
-abbrev pub over_row : (nodes : List (List ℕ)) → LogInOrder → (node : ℕ) → Option Over → List Fields
-over_row nodes log node None = []
-over_row nodes log node (Some over) = over_fields nodes log node over ∷ []
+abbrev pub over_row : List FileMark → (nodes : List (List ℕ)) → LogInOrder → (node : ℕ) → Option Over → List Fields
+over_row files nodes log node None = []
+over_row files nodes log node (Some over) = over_fields files nodes log node over ∷ []
 
 -- the places that are told of claims over a limit are those of events
 pub record NamesPlaces (log : LogInOrder) (over : Over) : Type 0 where
@@ -161,21 +174,31 @@ pub record NamesPlaces (log : LogInOrder) (over : Over) : Type 0 where
   pub furthest : over.furthest.0 < length log.events
 
 -- the rows of all nodes
-abbrev pub over_rows : (nodes : List (List ℕ)) → LogInOrder → List (Option Over) → List Fields
-over_rows nodes log overs = flat_map (λ node. over_row nodes log node (slice_index_or overs node None)) (places_below (length nodes))
+abbrev pub over_rows : List FileMark → (nodes : List (List ℕ)) → LogInOrder → List (Option Over) → List Fields
+over_rows files nodes log overs = flat_map (λ node. over_row files nodes log node (slice_index_or overs node None)) (places_below (length nodes))
 
 -- these are the rows of the nodes whose claims are over the limit, if there is one
-abbrev pub AreOverRows : (nodes : List (List ℕ)) → LogInOrder → (limit : Option ℕ) → List Fields → Type 0
-AreOverRows nodes log None rows = rows ≡ []
-AreOverRows nodes log (Some limit) rows = (overs : List (Option Over)) × AreOvers limit (length nodes) log.events overs × (rows ≡ over_rows nodes log overs)
+abbrev pub AreOverRows : List FileMark → (nodes : List (List ℕ)) → LogInOrder → (limit : Option ℕ) → List Fields → Type 0
+AreOverRows files nodes log None rows = rows ≡ []
+AreOverRows files nodes log (Some limit) rows =
+    (overs : List (Option Over)) × AreOvers limit (length nodes) log.events overs × (rows ≡ over_rows files nodes log overs)
 
--- the rows of the report: the counts of the verdicts, the causes, the nodes, the messages and the skews
-pub record IsReport (nodes : List (List ℕ)) (log : LogInOrder) (full : ℕ) (rows : List Fields) : Type 0 where
+-- the row of how many units of l make one of the readings, if they look as if they had different units
+abbrev pub factor_row : Option ℕ → List Fields
+factor_row None = []
+factor_row (Some factor) = (codes "units" ∷ decimal factor ∷ []) ∷ []
+
+-- the same where all stamps are ahead
+abbrev pub unit_rows : Counts → List LogEvent → List Fields
+unit_rows counts events = if are_all_ahead counts then factor_row (unit_factor events) else []
+
+-- the rows of the report: the counts of the verdicts, the causes, the nodes, the messages, the skews, and different units
+pub record IsReport (files : List FileMark) (nodes : List (List ℕ)) (log : LogInOrder) (full : ℕ) (rows : List Fields) : Type 0 where
   pub counts : Counts
   pub counted : AreCounted log full counts
   pub causes : List Causes
   pub are_causes : AreCauses log full causes
   pub skews : List Fields
-  pub are_skews : AreSkewRows nodes log skews
-  pub rows_are : rows ≡ count_rows counts ++ (cause_rows nodes log causes ++ (node_rows nodes log
-      ++ (message_row (message_counts log) ∷ skews)))
+  pub are_skews : AreSkewRows files nodes log skews
+  pub rows_are : rows ≡ count_rows counts ++ (cause_rows files nodes log full causes ++ (node_rows files nodes log
+      ++ (message_row (message_counts log) ∷ (skews ++ unit_rows counts log.events))))

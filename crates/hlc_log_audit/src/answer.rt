@@ -28,7 +28,7 @@ pub fn push_answer<W: Write>(
     question: &LogQuestion,
     writer: &mut W,
 ) -> Result<(), OutputFault>
-    ensures { OnOk result ((row : Fields) × IsAnswer log.now.nodes log.now.labels log.now.log log.now.full (plain_asked question.now) row
+    ensures { OnOk result ((row : Fields) × IsAnswer log.now.files log.now.nodes log.now.labels log.now.log log.now.full (plain_asked question.now) row
         × AddsRow W.contents writer.old writer.new rows.old rows.new row) }
 {
     let tallies = tally_nodes(alloc, log.ordered())?;
@@ -45,22 +45,25 @@ fn push_tallied<W: Write>(
     writer: &mut W,
 ) -> Result<(), OutputFault>
     requires { AreTallies log.now.log tallies.now }
-    ensures { OnOk result ((row : Fields) × IsAnswer log.now.nodes log.now.labels log.now.log log.now.full (plain_asked question.now) row
+    ensures { OnOk result ((row : Fields) × IsAnswer log.now.files log.now.nodes log.now.labels log.now.log log.now.full (plain_asked question.now) row
         × AddsRow W.contents writer.old writer.new rows.old rows.new row) }
 {
+    let files = log.files();
     let ordered = log.ordered();
     match question {
-        LogQuestion::Explain(line) => push_chain(alloc, rows, ordered, *line, writer),
-        LogQuestion::Check { line, chain } => push_check(
-            alloc, rows, ordered, *line, chain, writer,
-        ),
-        LogQuestion::Relation { first, second } => push_relation(
-            alloc, rows, ordered, *first, *second, writer,
-        ),
-        LogQuestion::Influenced(line) => push_influenced(alloc, rows, ordered, *line, writer),
+        LogQuestion::Explain(event) => push_chain(alloc, rows, files, ordered, event, writer),
+        LogQuestion::Check { event, chain } => {
+            push_check(alloc, rows, files, ordered, event, chain, writer)
+        }
+        LogQuestion::Relation { first, second } => {
+            push_relation(alloc, rows, files, ordered, first, second, writer)
+        }
+        LogQuestion::Influenced(event) => {
+            push_influenced(alloc, rows, files, ordered, event, writer)
+        }
         LogQuestion::Drift(name) => push_drift(rows, log, tallies, name, writer),
-        LogQuestion::Claimed(line) => push_claimed(alloc, rows, ordered, *line, writer),
-        LogQuestion::Event(line) => push_event(rows, log, *line, writer),
+        LogQuestion::Claimed(event) => push_claimed(alloc, rows, files, ordered, event, writer),
+        LogQuestion::Event(event) => push_event(rows, log, event, writer),
     }
 }
 
@@ -73,7 +76,7 @@ pub(crate) fn push_answers<W: Write>(
     writer: &mut W,
 ) -> Result<(), OutputFault>
     ensures { OnOk result ((answers : List Fields)
-        × AreAnswers log.now.nodes log.now.labels log.now.log log.now.full (map plain_asked questions.now) answers
+        × AreAnswers log.now.files log.now.nodes log.now.labels log.now.log log.now.full (map plain_asked questions.now) answers
         × AddsRows W.contents writer.old writer.new rows.old rows.new answers) }
 {
     if questions.is_empty() {

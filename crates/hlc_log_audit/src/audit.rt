@@ -16,9 +16,10 @@ use crate::overs::push_overs;
 use crate::report::push_report;
 use crate::rules::AuditRules;
 use crate::soundness::outcome;
+use hlc_csv::RowField::{Number, Text};
 use hlc_csv::{OutputFault, RecordsFault, RowBuffer};
 use hlc_log_report::{Counts, OrderedLog, count_messages, count_missing, skews_of};
-use hlc_log_text::{LogQuestion, Skipped};
+use hlc_log_text::{Files, LineText, LogQuestion, NameKey, Skipped};
 use hlc_open_log::{OpenFault, OpenLog, open_log, tell_bad};
 use hlc_stamp::MAX_CAPACITY;
 use std::alloc::Global;
@@ -70,15 +71,17 @@ fn push_counted<W: Write>(
 // Adds the row that tells which records were left out of a log, if some were.
 fn push_skipped<W: Write>(
     rows: &mut RowBuffer,
+    files: &Files,
     skipped: Option<Skipped>,
     writer: &mut W,
 ) -> Result<(), OutputFault>
-    ensures { OnOk result (AddsRows W.contents writer.old writer.new rows.old rows.new (skipped_row skipped)) }
+    ensures { OnOk result (AddsRows W.contents writer.old writer.new rows.old rows.new (skipped_row files.now skipped)) }
 {
     match skipped {
         Some(skipped) => {
-            let numbers = [u64::from(skipped.count), u64::from(skipped.line)];
-            rows.push_numbers(b"skipped", &numbers, None, writer)
+            let count = Number(u64::from(skipped.count));
+            let line = LineText::new(files, u64::from(skipped.line))?;
+            rows.push(&[Text(b"skipped"), count, line.field()], writer)
         }
         None => Ok(()),
     }
@@ -88,17 +91,18 @@ fn push_skipped<W: Write>(
 // were left out of it.
 fn push_missing<W: Write>(
     rows: &mut RowBuffer,
+    files: &Files,
     log: &OrderedLog,
     skipped: Option<Skipped>,
     writer: &mut W,
 ) -> Result<(), OutputFault>
-    ensures { OnOk result (AddsRows W.contents writer.old writer.new rows.old rows.new (missing_rows log.now.events skipped)) }
+    ensures { OnOk result (AddsRows W.contents writer.old writer.new rows.old rows.new (missing_rows files.now log.now.events skipped)) }
 {
     let missing = count_missing(log);
     push_counted(rows, b"outside", missing.outside, writer)?;
     push_counted(rows, b"unread", missing.unread, writer)?;
     push_counted(rows, b"unstamped", missing.unstamped, writer)?;
-    push_skipped(rows, skipped, writer)
+    push_skipped(rows, files, skipped, writer)
 }
 
 // Whether the report is written: the rules want it, or nothing is asked.
@@ -120,13 +124,14 @@ fn push_if_told<W: Write>(
 ) -> Result<(), OutputFault>
     requires { AreCounted log.now.log log.now.full counts }
     ensures { OnOk result ((report : List Fields)
-        × IsReportIf (is_reported rules (all_asked log.now.questions asked.now)) log.now.nodes log.now.log log.now.full log.now.unsent log.now.resent
-        log.now.skipped log.now.left_out rules.limit report
+        × IsReportIf log.now.files (is_reported rules (all_asked log.now.questions asked.now)) log.now.nodes log.now.log log.now.full log.now.unsent
+        log.now.resent log.now.skipped log.now.left_out rules.limit report
         × AddsRows W.contents writer.old writer.new rows.old rows.new report) }
 {
     if !is_reported(rules, log.questions(), asked) {
         return Ok(());
     }
+    let files = log.files();
     let ordered = log.ordered();
     let skews = skews_of(alloc, ordered)?;
     push_report(
@@ -139,8 +144,8 @@ fn push_if_told<W: Write>(
         writer,
     )?;
     push_all_taken(rows, log.unsent(), log.resent(), writer)?;
-    push_missing(rows, ordered, log.skipped(), writer)?;
-    push_left_out(rows, log.left_out(), writer)?;
+    push_missing(rows, files, ordered, log.skipped(), writer)?;
+    push_left_out(rows, files, log.left_out(), writer)?;
     push_overs(alloc, rows, log, rules.limit, writer)
 }
 
@@ -153,7 +158,7 @@ fn push_all_answers<W: Write>(
     writer: &mut W,
 ) -> Result<(), OutputFault>
     ensures { OnOk result ((answers : List Fields)
-        × AreAnswers log.now.nodes log.now.labels log.now.log log.now.full (all_asked log.now.questions asked.now) answers
+        × AreAnswers log.now.files log.now.nodes log.now.labels log.now.log log.now.full (all_asked log.now.questions asked.now) answers
         × AddsRows W.contents writer.old writer.new rows.old rows.new answers) }
 {
     push_answers(alloc, rows, log, log.questions(), writer)?;
@@ -179,8 +184,9 @@ fn tell_log<W: Write>(
     rows.finish(writer)
 }
 
-// Writes the rows that tell of a log that was opened by these rules, and answers what its audit found.
-fn audit_opened<W: Write>(
+/// Writes the rows that tell of a log that was opened by these rules, and answers what its audit found: what `audit_run` does once it has opened
+/// the log.
+pub fn audit_opened<W: Write>(
     alloc: Global,
     log: &OpenLog,
     rules: AuditRules,
@@ -209,6 +215,7 @@ pub fn audit_up_to<R: Read + Drop, W: Write>(
     rules: AuditRules,
     asked: &[LogQuestion],
     most: u32,
+    key: NameKey,
 ) -> Result<Audited, RecordsFault>
     requires { most ≤ MAX_CAPACITY }
     ensures audited { IfOk result (λ audited. IsAudited rules most asked.now
@@ -218,10 +225,10 @@ pub fn audit_up_to<R: Read + Drop, W: Write>(
     ensures too_long { IsErrOf result RecordsFault.TooLong → HasTooMany rules.records most (R.remaining reader) }
     ensures nothing { IsErrOf result RecordsFault.TooLong → writer.new ≡ writer.old }
 {
-    match open_log(alloc, reader, rules.records, most) {
+    match open_log(alloc, reader, rules.records, most, key) {
         Ok(log) => Ok(audit_opened(alloc, &log, rules, asked, writer)?),
         Err(OpenFault::Bad(bad)) => {
-            tell_bad(alloc, bad, writer)?;
+            tell_bad(alloc, &bad, writer)?;
             Ok(Audited {
                 outcome: Outcome::BadLog,
                 events: 0,
@@ -244,6 +251,7 @@ pub fn audit_run<R: Read + Drop, W: Write>(
     writer: &mut W,
     rules: AuditRules,
     asked: &[LogQuestion],
+    key: NameKey,
 ) -> Result<Audited, RecordsFault>
     ensures audited { IfOk result (λ audited. IsAudited rules MAX_CAPACITY asked.now
         (R.remaining reader) (W.contents writer.old) (W.contents writer.new) audited.outcome) }
@@ -252,5 +260,5 @@ pub fn audit_run<R: Read + Drop, W: Write>(
     ensures too_long { IsErrOf result RecordsFault.TooLong → HasTooMany rules.records MAX_CAPACITY (R.remaining reader) }
     ensures nothing { IsErrOf result RecordsFault.TooLong → writer.new ≡ writer.old }
 {
-    audit_up_to(alloc, reader, writer, rules, asked, MAX_CAPACITY)
+    audit_up_to(alloc, reader, writer, rules, asked, MAX_CAPACITY, key)
 }

@@ -1,22 +1,24 @@
-ghost use Rattle.std.specs.Prelude.{◌≡◌, ◌↔◌, ◌<◌, IfSome, IsTrue, List, OnOk, length};
+ghost use Rattle.std.specs.Prelude.{◌≡◌, ◌↔◌, ◌<◌, ◌∷◌, [], IfSome, IsTrue, List, OnOk, codes, decimal, length};
 ghost use Rattle.hlc_causality.specs.Neighbours.{place_of};
 ghost use Rattle.hlc_csv.specs.Rows.{AddsRow, AddsRows};
+ghost use Rattle.hlc_log_audit.specs.Answers.{told_in};
 ghost use Rattle.hlc_causes.specs.declared.answers.Causes.{Causes as CausesFound};
 ghost use Rattle.hlc_log_report.specs.InOrder.{IsInOrder};
 ghost use Rattle.hlc_log_report.specs.Counts.{AreCounted, no_findings};
-ghost use Rattle.hlc_log_audit.specs.Report.{AreCauses, NameEvents, NamesCausesAt, NamesEvent, cause_fields_at, cause_row, cause_rows, cause_rows_at, wrong_at, wrong_row};
+ghost use Rattle.hlc_log_audit.specs.Report.{AreCauses, NameEvents, NamesCausesAt, NamesEvent, cause_fields_at, cause_row, cause_rows, cause_rows_at, swapped_at, swapped_fields, wrong_at, wrong_row};
 
+use crate::lines::told_line;
 use crate::soundness::carries_wrongly;
 use hlc_causes::{Cause, Causes};
 use hlc_csv::RowField::{Number, Text};
 use hlc_csv::{OutputFault, RowBuffer};
 use hlc_log_report::{Counts, OrderedLog};
-use hlc_log_text::{Names, node_name};
-use hlc_stamp::EventId;
+use hlc_log_text::{Files, LineText, Names, node_name};
+use hlc_stamp::{EventId, Stamp};
 use std::io::Write;
 
-// The rules that the event at a place of the log breaks.
-fn causes_of(log: &OrderedLog, place: EventId, full: u32) -> Causes
+/// The rules that the event at a place of the log breaks.
+pub fn causes_of(log: &OrderedLog, place: EventId, full: u32) -> Causes
     requires ordered { IsInOrder log.now }
     requires exists { place.0 < length log.now.events }
     ensures causes { NamesCausesAt log.now full place.0 result }
@@ -25,8 +27,8 @@ fn causes_of(log: &OrderedLog, place: EventId, full: u32) -> Causes
     log.causes(log.position(place), full)
 }
 
-// The send of what the event at a place of the log receives, if its message carried another stamp than the log claims for the send.
-fn wrongly_carried_at(log: &OrderedLog, place: EventId) -> Option<EventId>
+/// The send of what the event at a place of the log receives, if its message carried another stamp than the log claims for the send.
+pub fn wrongly_carried_at(log: &OrderedLog, place: EventId) -> Option<EventId>
     requires ordered { IsInOrder log.now }
     requires exists { place.0 < length log.now.events }
     ensures value { place_of result ≡ wrong_at log.now place.0 }
@@ -35,9 +37,19 @@ fn wrongly_carried_at(log: &OrderedLog, place: EventId) -> Option<EventId>
     log.wrongly_carried(log.position(place))
 }
 
+// Whether the event at a place of the log stands swapped with its node's event before it.
+fn is_swapped_at(log: &OrderedLog, place: EventId, full: u32) -> bool
+    requires ordered { IsInOrder log.now }
+    requires exists { place.0 < length log.now.events }
+    ensures { result ≡ swapped_at log.now full place.0 }
+{
+    log.is_swapped(log.position(place), full)
+}
+
 // Adds the row of a message that carried another stamp than this send, if there is one.
 fn push_wrong<W: Write>(
     rows: &mut RowBuffer,
+    files: &Files,
     nodes: &Names,
     log: &OrderedLog,
     place: EventId,
@@ -46,65 +58,149 @@ fn push_wrong<W: Write>(
 ) -> Result<(), OutputFault>
     requires exists { place.0 < length log.now.events }
     requires event { IfSome send (λ d. d.0 < length log.now.events) }
-    ensures { OnOk result (AddsRows W.contents writer.old writer.new rows.old rows.new (wrong_row nodes.now log.now place.0 (place_of send))) }
+    ensures { OnOk result (AddsRows W.contents writer.old writer.new rows.old rows.new (wrong_row files.now nodes.now log.now place.0 (place_of send))) }
 {
     let Some(send) = send else {
         return Ok(());
     };
     let event = log.at(place);
-    let line = Number(u64::from(event.line));
+    let line = LineText::new(files, u64::from(event.line))?;
     let node = Text(node_name(nodes, event.node));
-    let sent = Number(u64::from(log.event(send).line));
+    let sent = told_line(files, log, send)?;
     rows.push(
-        &[Text(b"cause"), line, node, Text(b"carried"), sent],
+        &[
+            Text(b"cause"),
+            line.field(),
+            node,
+            Text(b"carried"),
+            sent.field(),
+        ],
         writer,
     )
+}
+
+// Adds the row of an event on a line, at a node, whose stamp is behind.
+fn push_behind<'a, W: Write>(
+    rows: &mut RowBuffer,
+    line: &'a LineText,
+    node: &'a [u8],
+    writer: &mut W,
+) -> Result<(), OutputFault>
+    ensures { OnOk result (AddsRow W.contents writer.old writer.new rows.old rows.new
+        (codes "cause" ∷ line.now ∷ node.now ∷ codes "behind" ∷ [])) }
+{
+    let (line, node) = (line.field(), Text(node));
+    rows.push(&[Text(b"cause"), line, node, Text(b"behind")], writer)
+}
+
+// The same of one whose stamp is ahead of this one.
+fn push_ahead<'a, W: Write>(
+    rows: &mut RowBuffer,
+    line: &'a LineText,
+    node: &'a [u8],
+    least: Stamp,
+    writer: &mut W,
+) -> Result<(), OutputFault>
+    ensures { OnOk result (AddsRow W.contents writer.old writer.new rows.old rows.new
+        (codes "cause" ∷ line.now ∷ node.now ∷ codes "ahead" ∷ decimal least.l ∷ decimal least.c ∷ [])) }
+{
+    let (line, node) = (line.field(), Text(node));
+    let (l, c) = (Number(least.l), Number(u64::from(least.c)));
+    rows.push(&[Text(b"cause"), line, node, Text(b"ahead"), l, c], writer)
+}
+
+// The same of one whose stamp isn't above that of the event on another line, with which it stands swapped or doesn't.
+fn push_two_lines<'a, W: Write>(
+    rows: &mut RowBuffer,
+    line: &'a LineText,
+    node: &'a [u8],
+    direct: &'a LineText,
+    swapped: bool,
+    writer: &mut W,
+) -> Result<(), OutputFault>
+    ensures { OnOk result (AddsRow W.contents writer.old writer.new rows.old rows.new
+        (codes "cause" ∷ line.now ∷ node.now ∷ codes "not-above" ∷ direct.now ∷ swapped_fields swapped)) }
+{
+    let (cause, line, node) = (Text(b"cause"), line.field(), Text(node));
+    let (rule, direct) = (Text(b"not-above"), direct.field());
+    if swapped {
+        let swapped = Text(b"swapped");
+        rows.push(&[cause, line, node, rule, direct, swapped], writer)
+    } else {
+        rows.push(&[cause, line, node, rule, direct], writer)
+    }
+}
+
+// The same, by the number of the other event, a direct predecessor.
+fn push_not_above<W: Write>(
+    rows: &mut RowBuffer,
+    files: &Files,
+    log: &OrderedLog,
+    line: &LineText,
+    node: &[u8],
+    direct: EventId,
+    swapped: bool,
+    writer: &mut W,
+) -> Result<(), OutputFault>
+    requires { direct.0 < length log.now.events }
+    ensures { OnOk result (AddsRow W.contents writer.old writer.new rows.old rows.new
+        (codes "cause" ∷ line.now ∷ node.now ∷ codes "not-above" ∷ told_in files.now log.now direct.0 ∷ swapped_fields swapped)) }
+{
+    let direct = told_line(files, log, direct)?;
+    push_two_lines(rows, line, node, &direct, swapped, writer)
 }
 
 // Adds the row of a cause.
 fn push_cause<W: Write>(
     rows: &mut RowBuffer,
+    files: &Files,
     nodes: &Names,
     log: &OrderedLog,
     place: EventId,
     found: Cause,
+    full: u32,
     writer: &mut W,
 ) -> Result<(), OutputFault>
+    requires ordered { IsInOrder log.now }
     requires exists { place.0 < length log.now.events }
     requires event { NamesEvent log.now found }
-    ensures { OnOk result (AddsRow W.contents writer.old writer.new rows.old rows.new (cause_fields_at nodes.now log.now place.0 found)) }
+    ensures { OnOk result (AddsRow W.contents writer.old writer.new rows.old rows.new
+        (cause_fields_at files.now nodes.now log.now (swapped_at log.now full place.0) place.0 found)) }
 {
     let event = log.at(place);
-    let line = Number(u64::from(event.line));
-    let (word, node) = (Text(b"cause"), Text(node_name(nodes, event.node)));
+    let line = LineText::new(files, u64::from(event.line))?;
+    let node = node_name(nodes, event.node);
     match found {
-        Cause::Behind => rows.push(&[word, line, node, Text(b"behind")], writer),
-        Cause::NotAbovePrevious(direct) | Cause::NotAboveSend(direct) => {
-            let direct = Number(u64::from(log.event(direct).line));
-            rows.push(&[word, line, node, Text(b"not-above"), direct], writer)
+        Cause::Behind => push_behind(rows, &line, node, writer),
+        Cause::NotAbovePrevious(direct) => {
+            let swapped = is_swapped_at(log, place, full);
+            push_not_above(rows, files, log, &line, node, direct, swapped, writer)
         }
-        Cause::Ahead(least) => {
-            let (l, c) = (Number(least.l), Number(u64::from(least.c)));
-            rows.push(&[word, line, node, Text(b"ahead"), l, c], writer)
+        Cause::NotAboveSend(direct) => {
+            push_not_above(rows, files, log, &line, node, direct, false, writer)
         }
+        Cause::Ahead(least) => push_ahead(rows, &line, node, least, writer),
     }
 }
 
 // Adds the row of a cause, if there is one.
 fn push_if_cause<W: Write>(
     rows: &mut RowBuffer,
+    files: &Files,
     nodes: &Names,
     log: &OrderedLog,
     place: EventId,
     found: Option<Cause>,
+    full: u32,
     writer: &mut W,
 ) -> Result<(), OutputFault>
+    requires ordered { IsInOrder log.now }
     requires exists { place.0 < length log.now.events }
     requires event { IfSome found (NamesEvent log.now) }
-    ensures { OnOk result (AddsRows W.contents writer.old writer.new rows.old rows.new (cause_row nodes.now log.now place.0 found)) }
+    ensures { OnOk result (AddsRows W.contents writer.old writer.new rows.old rows.new (cause_row files.now nodes.now log.now full place.0 found)) }
 {
     match found {
-        Some(found) => push_cause(rows, nodes, log, place, found, writer),
+        Some(found) => push_cause(rows, files, nodes, log, place, found, full, writer),
         None => Ok(()),
     }
 }
@@ -112,28 +208,31 @@ fn push_if_cause<W: Write>(
 // Adds the rows of the event at a place: one for each rule that it breaks, and one if its message carried another stamp than its send.
 fn push_causes_of<W: Write>(
     rows: &mut RowBuffer,
+    files: &Files,
     nodes: &Names,
     log: &OrderedLog,
     place: EventId,
     found: Causes,
     wrong: Option<EventId>,
+    full: u32,
     writer: &mut W,
 ) -> Result<(), OutputFault>
+    requires ordered { IsInOrder log.now }
     requires exists { place.0 < length log.now.events }
     requires events { NameEvents log.now found }
     requires wrong { place_of wrong ≡ wrong_at log.now place.0 }
     requires wrong_event { IfSome wrong (λ d. d.0 < length log.now.events) }
-    ensures { OnOk result (AddsRows W.contents writer.old writer.new rows.old rows.new (cause_rows_at nodes.now log.now place.0 found)) }
+    ensures { OnOk result (AddsRows W.contents writer.old writer.new rows.old rows.new (cause_rows_at files.now nodes.now log.now full place.0 found)) }
 {
     let behind = found.behind.then_some(Cause::Behind);
     let previous = found.not_above_previous.map(Cause::NotAbovePrevious);
     let send = found.not_above_send.map(Cause::NotAboveSend);
     let ahead = found.ahead.map(Cause::Ahead);
-    push_if_cause(rows, nodes, log, place, behind, writer)?;
-    push_if_cause(rows, nodes, log, place, previous, writer)?;
-    push_if_cause(rows, nodes, log, place, send, writer)?;
-    push_if_cause(rows, nodes, log, place, ahead, writer)?;
-    push_wrong(rows, nodes, log, place, wrong, writer)
+    push_if_cause(rows, files, nodes, log, place, behind, full, writer)?;
+    push_if_cause(rows, files, nodes, log, place, previous, full, writer)?;
+    push_if_cause(rows, files, nodes, log, place, send, full, writer)?;
+    push_if_cause(rows, files, nodes, log, place, ahead, full, writer)?;
+    push_wrong(rows, files, nodes, log, place, wrong, writer)
 }
 
 // Whether no stamp has another verdict than least.
@@ -151,6 +250,7 @@ fn are_least(counts: Counts) -> bool
 // carried its send's.
 pub(crate) fn push_causes<W: Write>(
     rows: &mut RowBuffer,
+    files: &Files,
     nodes: &Names,
     log: &OrderedLog,
     counts: Counts,
@@ -160,29 +260,40 @@ pub(crate) fn push_causes<W: Write>(
     requires ordered { IsInOrder log.now }
     requires counts { AreCounted log.now full counts }
     ensures { OnOk result ((causes : List CausesFound) × AreCauses log.now full causes
-        × AddsRows W.contents writer.old writer.new rows.old rows.new (cause_rows nodes.now log.now causes)) }
+        × AddsRows W.contents writer.old writer.new rows.old rows.new (cause_rows files.now nodes.now log.now full causes)) }
 {
     if are_least(counts) && !carries_wrongly(log) {
         return Ok(());
     }
-    push_each_cause(rows, nodes, log, full, writer)
+    push_each_cause(rows, files, nodes, log, full, writer)
 }
 
 // Adds the rows of each event that is a cause.
 fn push_each_cause<W: Write>(
     rows: &mut RowBuffer,
+    files: &Files,
     nodes: &Names,
     log: &OrderedLog,
     full: u32,
     writer: &mut W,
 ) -> Result<(), OutputFault>
     ensures { OnOk result ((causes : List CausesFound) × AreCauses log.now full causes
-        × AddsRows W.contents writer.old writer.new rows.old rows.new (cause_rows nodes.now log.now causes)) }
+        × AddsRows W.contents writer.old writer.new rows.old rows.new (cause_rows files.now nodes.now log.now full causes)) }
 {
     for place in 0..log.len() {
         let found = causes_of(log, EventId(place), full);
         let wrong = wrongly_carried_at(log, EventId(place));
-        push_causes_of(rows, nodes, log, EventId(place), found, wrong, writer)?;
+        push_causes_of(
+            rows,
+            files,
+            nodes,
+            log,
+            EventId(place),
+            found,
+            wrong,
+            full,
+            writer,
+        )?;
     }
     Ok(())
 }

@@ -3,6 +3,7 @@ ghost use Rattle.std.specs.Option.{ForSome};
 ghost use Rattle.hlc_csv.specs.Rows.{AddsRow};
 ghost use Rattle.hlc_log_report.specs.InOrder.{IsInOrder, claimed_of, skeleton_of};
 ghost use Rattle.hlc_log_audit.specs.Answers.{claimed_fields, if_event};
+ghost use Rattle.hlc_log_text.specs.Files.{line_at};
 ghost use Rattle.hlc_open_log.specs.Opened.{LinesRise};
 ghost use Rattle.hlc_log_audit.specs.Lines.{AreEventsIn, position_on};
 ghost use Rattle.hlc_causality.specs.Neighbours.{place_of};
@@ -17,7 +18,7 @@ use hlc_csv::{OutputFault, RowBuffer};
 use hlc_execution::Execution;
 use hlc_explain::Missing;
 use hlc_log_report::OrderedLog;
-use hlc_log_text::Line;
+use hlc_log_text::{Files, Location};
 use hlc_stamp::EventId;
 use std::alloc::{AllocError, Global};
 use std::io::Write;
@@ -113,22 +114,28 @@ fn way_at(alloc: Global, log: &OrderedLog, event: EventId) -> Result<Vec<EventId
     claimed_way(alloc, log.execution(), log, event)
 }
 
-// Answers on which way the claimed `l` of the event of a line came.
+// Answers on which way the claimed `l` of an event came.
 pub(crate) fn push_claimed<W: Write>(
     alloc: Global,
     rows: &mut RowBuffer,
+    files: &Files,
     log: &OrderedLog,
-    line: Line,
+    event: &Location,
     writer: &mut W,
 ) -> Result<(), OutputFault>
     requires { LinesRise log.now.events }
     ensures { OnOk result (AddsRow W.contents writer.old writer.new rows.old rows.new
-        (if_event (position_on log.now line.0) (claimed_fields log.now line.0))) }
+        (if_event (line_at files.now event.now) (λ line. if_event (position_on log.now line) (claimed_fields files.now log.now line)))) }
 {
+    let Some(line) = files.line_at(event) else {
+        return push_missing(rows, Missing::Event, writer);
+    };
     let Some(found) = find(log, line) else {
         return push_missing(rows, Missing::Event, writer);
     };
     let way = way_at(alloc, log, found.position)?;
     let stamp = log.stamp(found.position);
-    push_way(alloc, rows, b"claimed", log, line, stamp, &way, writer)
+    push_way(
+        alloc, rows, b"claimed", files, log, line, stamp, &way, writer,
+    )
 }

@@ -5,6 +5,7 @@ ghost use Rattle.hlc_log_report.specs.InOrder.{IsInOrder};
 ghost use Rattle.hlc_log_audit.specs.Answers.{drift_in, drift_row};
 ghost use Rattle.hlc_log_audit.specs.Tally.{AreTallies, furthest_in};
 
+use crate::lines::told_line;
 use crate::tally::{Furthest, NodeTally};
 use crate::words::push_missing;
 use hlc_csv::RowField::{Number, Text};
@@ -48,8 +49,9 @@ pub(crate) fn push_drift<'a, W: Write>(
 ) -> Result<(), OutputFault>
     requires { AreTallies log.now.log tallies.now }
     ensures { OnOk result (AddsRow W.contents writer.old writer.new rows.old rows.new
-        (drift_row log.now.log name.now (position (bytes_eq name.now) log.now.nodes))) }
+        (drift_row log.now.files log.now.log name.now (position (bytes_eq name.now) log.now.nodes))) }
 {
+    let files = log.files();
     let ordered = log.ordered();
     let Some(node) = log.nodes().number(name) else {
         return push_missing(rows, Missing::Node, writer);
@@ -59,9 +61,10 @@ pub(crate) fn push_drift<'a, W: Write>(
     match drift_from(ordered, NodeId(node as u16), furthest) {
         None => rows.push(&[word, name, Text(b"none")], writer),
         Some(drift) => {
-            let line = Number(u64::from(ordered.event(drift.event).line));
-            let origin = Number(u64::from(ordered.event(drift.origin).line));
-            rows.push(&[word, name, Number(drift.ahead), line, origin], writer)
+            let line = told_line(files, ordered, drift.event)?;
+            let origin = told_line(files, ordered, drift.origin)?;
+            let ahead = Number(drift.ahead);
+            rows.push(&[word, name, ahead, line.field(), origin.field()], writer)
         }
     }
 }

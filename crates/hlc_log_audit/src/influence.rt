@@ -1,20 +1,22 @@
-ghost use Rattle.std.specs.Prelude.{◌≡◌, ◌<◌, ◌∷◌, IfOk, List, ℕ, OnOk, length};
+ghost use Rattle.std.specs.Prelude.{◌≡◌, ◌<◌, ◌∷◌, IfOk, List, ℕ, OnOk, codes, length, map};
 ghost use Rattle.std.specs.List.Sorted.{IsPermutation, IsSorted};
 ghost use Rattle.std.specs.Ordering.{nat_cmp};
 ghost use Rattle.hlc_stamp.specs.Ids.{places_of};
 ghost use Rattle.hlc_explain.specs.Findings.{influenced_by};
-ghost use Rattle.hlc_csv.specs.Rows.{AddsRow, Fields};
+ghost use Rattle.hlc_csv.specs.Rows.{AddsRow, Fields, row_field_bytes};
 ghost use Rattle.hlc_log_report.specs.InOrder.{IsInOrder, skeleton_of};
 ghost use Rattle.hlc_log_audit.specs.Answers.{AreRisingLinesOf, IfEvent, TellsInfluenced};
+ghost use Rattle.hlc_log_text.specs.Files.{line_at};
 ghost use Rattle.hlc_open_log.specs.Opened.{LinesRise};
 ghost use Rattle.hlc_log_audit.specs.Lines.{AreEventsIn, position_on};
 
-use crate::lines::{find, push_lines};
+use crate::lines::{find, line_texts, push_lines, push_texts};
 use crate::words::push_missing;
-use hlc_csv::{OutputFault, RowBuffer};
+use hlc_csv::RowField::Text;
+use hlc_csv::{OutputFault, RowBuffer, RowField};
 use hlc_explain::{AuditFault, Missing, influenced};
 use hlc_log_report::OrderedLog;
-use hlc_log_text::Line;
+use hlc_log_text::{Files, LineText, Location};
 use hlc_stamp::EventId;
 use std::alloc::{AllocError, Global};
 use std::io::Write;
@@ -58,31 +60,41 @@ fn influenced_lines(alloc: Global, log: &OrderedLog, event: EventId) -> Result<V
     Ok(lines)
 }
 
-// The numbers of the row of a line and of lines.
-fn row_numbers(alloc: Global, line: Line, lines: &[u64]) -> Result<Vec<u64>, AllocError>
-    ensures { IfOk result (λ numbers. numbers.items ≡ line.0 ∷ lines.now) }
+// The fields of the row of a line and of lines.
+fn influenced_fields<'a>(
+    alloc: Global,
+    line: &'a LineText,
+    texts: &'a [LineText],
+) -> Result<Vec<RowField<'a>>, AllocError>
+    ensures { IfOk result (λ fields. map row_field_bytes fields.items ≡ codes "influenced" ∷ line.now ∷ texts.now) }
 {
-    let mut numbers = vec![in alloc; line.0]?;
-    numbers.extend_from_slice(lines)?;
-    Ok(numbers)
+    let mut fields = vec![in alloc; Text(b"influenced"), line.field()]?;
+    push_texts(&mut fields, texts)?;
+    Ok(fields)
 }
 
-// Answers which events the event of a line happened before.
+// Answers which events an event happened before.
 pub(crate) fn push_influenced<W: Write>(
     alloc: Global,
     rows: &mut RowBuffer,
+    files: &Files,
     log: &OrderedLog,
-    line: Line,
+    event: &Location,
     writer: &mut W,
 ) -> Result<(), OutputFault>
     requires { LinesRise log.now.events }
-    ensures { OnOk result ((row : Fields) × IfEvent (position_on log.now line.0) (TellsInfluenced log.now line.0) row
+    ensures { OnOk result ((row : Fields) × IfEvent (line_at files.now event.now)
+        (λ line. IfEvent (position_on log.now line) (TellsInfluenced files.now log.now line)) row
         × AddsRow W.contents writer.old writer.new rows.old rows.new row) }
 {
+    let Some(line) = files.line_at(event) else {
+        return push_missing(rows, Missing::Event, writer);
+    };
     let Some(found) = find(log, line) else {
         return push_missing(rows, Missing::Event, writer);
     };
     let lines = influenced_lines(alloc, log, found.position)?;
-    let numbers = row_numbers(alloc, line, &lines)?;
-    rows.push_numbers(b"influenced", &numbers, None, writer)
+    let line = LineText::new(files, line)?;
+    let texts = line_texts(alloc, files, &lines)?;
+    rows.push(&influenced_fields(alloc, &line, &texts)?, writer)
 }

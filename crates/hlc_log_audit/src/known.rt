@@ -2,6 +2,7 @@ ghost use Rattle.std.specs.Prelude.{◌≡◌, OnOk, option_map};
 ghost use Rattle.std.specs.Borrow.{Bor};
 ghost use Rattle.hlc_csv.specs.Rows.{AddsRow, Fields, row_field_bytes};
 ghost use Rattle.hlc_log_audit.specs.Answers.{IfEvent, TellsEvent, event_fields, reading_field};
+ghost use Rattle.hlc_log_text.specs.Files.{line_at};
 ghost use Rattle.hlc_log_audit.specs.Lines.{position_on};
 
 use crate::lines::find;
@@ -11,7 +12,7 @@ use hlc_csv::RowField::{Number, Text};
 use hlc_csv::{OutputFault, RowBuffer, RowField};
 use hlc_explain::Missing;
 use hlc_log::LogEvent;
-use hlc_log_text::{Line, node_name};
+use hlc_log_text::{LineText, Location, node_name};
 use hlc_open_log::OpenLog;
 use hlc_stamp::Stamp;
 use std::io::Write;
@@ -31,7 +32,7 @@ fn reading_field(event: LogEvent) -> RowField<'static>
 fn push_known<'a, W: Write>(
     rows: &mut RowBuffer,
     name: &'a [u8],
-    line: Line,
+    line: &'a LineText,
     event: LogEvent,
     least: Stamp,
     found: Option<Finding>,
@@ -39,10 +40,10 @@ fn push_known<'a, W: Write>(
     writer: &mut W,
 ) -> Result<(), OutputFault>
     ensures { OnOk result (AddsRow W.contents writer.old writer.new rows.old rows.new
-        (event_fields name.now line.0 event least found (option_map (λ label. label.now) label.entry))) }
+        (event_fields name.now line.now event least found (option_map (λ label. label.now) label.entry))) }
 {
     let (word, name) = (Text(b"event"), Text(name));
-    let (line, reading) = (Number(line.0), reading_field(event));
+    let (line, reading) = (line.field(), reading_field(event));
     let (l, c) = (Number(event.stamp.l), Number(u64::from(event.stamp.c)));
     let (least_l, least_c) = (Number(least.l), Number(u64::from(least.c)));
     let found = Text(found_word(found));
@@ -69,25 +70,31 @@ fn push_known<'a, W: Write>(
     }
 }
 
-// Answers what is known of the event of a line.
+// Answers what is known of an event.
 pub(crate) fn push_event<W: Write>(
     rows: &mut RowBuffer,
     log: &OpenLog,
-    line: Line,
+    event: &Location,
     writer: &mut W,
 ) -> Result<(), OutputFault>
     ensures { OnOk result ((row : Fields)
-        × IfEvent (position_on log.now.log line.0) (TellsEvent log.now.nodes log.now.labels log.now.log log.now.full line.0) row
+        × IfEvent (line_at log.now.files event.now) (λ line. IfEvent (position_on log.now.log line)
+        (TellsEvent log.now.files log.now.nodes log.now.labels log.now.log log.now.full line)) row
         × AddsRow W.contents writer.old writer.new rows.old rows.new row) }
 {
+    let files = log.files();
     let ordered = log.ordered();
+    let Some(line) = files.line_at(event) else {
+        return push_missing(rows, Missing::Event, writer);
+    };
     let Some(at) = find(ordered, line) else {
         return push_missing(rows, Missing::Event, writer);
     };
     let event = ordered.event(at.position);
+    let line = LineText::new(files, line)?;
     let name = node_name(log.nodes(), event.node);
     let least = ordered.execution().stamp(at.position);
     let found = ordered.finding(at.position, log.full());
-    let label = log.labels().get(at.place);
-    push_known(rows, name, line, event, least, found, label, writer)
+    let label = log.label(at.place);
+    push_known(rows, name, &line, event, least, found, label, writer)
 }

@@ -7,7 +7,7 @@ ghost use Rattle.hlc_log_audit.specs.LeftOut.{has_word, left_out_rows, row_of_wo
 
 use hlc_csv::RowField::{Number, Text};
 use hlc_csv::{OutputFault, RowBuffer};
-use hlc_log_text::BadLine;
+use hlc_log_text::{BadLine, Files, LineText};
 use std::io::Write;
 
 // Whether a record is bad for a reason of this word.
@@ -34,18 +34,20 @@ fn count_of(left_out: &[BadLine], word: &[u8]) -> usize
 // Adds the row of those that are bad for a reason of a word, if there are some.
 fn push_word<W: Write>(
     rows: &mut RowBuffer,
+    files: &Files,
     word: &[u8],
     left_out: &[BadLine],
     writer: &mut W,
 ) -> Result<(), OutputFault>
-    ensures { OnOk result (AddsRows W.contents writer.old writer.new rows.old rows.new (row_of_word word.now left_out.now)) }
+    ensures { OnOk result (AddsRows W.contents writer.old writer.new rows.old rows.new (row_of_word files.now word.now left_out.now)) }
 {
     let Some(first) = first_of(left_out, word) else {
         return Ok(());
     };
-    let (count, line) = (count_of(left_out, word) as u64, u64::from(first.line));
+    let count = Number(count_of(left_out, word) as u64);
+    let line = LineText::new(files, u64::from(first.line))?;
     rows.push(
-        &[Text(b"left-out"), Text(word), Number(count), Number(line)],
+        &[Text(b"left-out"), Text(word), count, line.field()],
         writer,
     )
 }
@@ -53,15 +55,18 @@ fn push_word<W: Write>(
 // Adds the rows that tell which records are bad and were left out, word by word.
 pub(crate) fn push_left_out<W: Write>(
     rows: &mut RowBuffer,
+    files: &Files,
     left_out: &[BadLine],
     writer: &mut W,
 ) -> Result<(), OutputFault>
-    ensures { OnOk result (AddsRows W.contents writer.old writer.new rows.old rows.new (left_out_rows left_out.now)) }
+    ensures { OnOk result (AddsRows W.contents writer.old writer.new rows.old rows.new (left_out_rows files.now left_out.now)) }
 {
-    push_word(rows, b"word", left_out, writer)?;
-    push_word(rows, b"fields", left_out, writer)?;
-    push_word(rows, b"number", left_out, writer)?;
-    push_word(rows, b"name", left_out, writer)?;
-    push_word(rows, b"node", left_out, writer)?;
-    push_word(rows, b"field", left_out, writer)
+    push_word(rows, files, b"word", left_out, writer)?;
+    push_word(rows, files, b"fields", left_out, writer)?;
+    push_word(rows, files, b"number", left_out, writer)?;
+    push_word(rows, files, b"name", left_out, writer)?;
+    push_word(rows, files, b"node", left_out, writer)?;
+    push_word(rows, files, b"field", left_out, writer)?;
+    push_word(rows, files, b"sent-twice", left_out, writer)?;
+    push_word(rows, files, b"cycle", left_out, writer)
 }

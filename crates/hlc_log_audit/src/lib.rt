@@ -14,7 +14,8 @@
 //! - `count,VERDICT,N`: how many stamps have a verdict, if there are some.
 //! - `cause,LINE,NODE,HOW`: an event that broke the rule, in the order of the lines. HOW is `behind`, `not-above` with the line
 //!   of the direct predecessor, or `ahead` with the stamp that the rule gives; or it is `carried`, with the line of the send whose message
-//!   carried another stamp than the log claims there.
+//!   carried another stamp than the log claims there. Behind the line of the node's own event before it stands `swapped`, if each of the two
+//!   would keep the rule in the place of the other.
 //! - `node,NODE,EVENTS,AHEAD,LINE,ORIGIN`: how many events a node has, its drift by the least stamps among those whose reading is told, the
 //!   line of the first event that has it, and that of its origin. A node of which no reading is told has `none` in place of these three.
 //! - `messages,SENT,RECEIVED,REPEATED,UNRECEIVED`: the counts of `MessageCounts`.
@@ -45,7 +46,8 @@
 //! Text that is not a log is answered by the one row `bad,LINE,WHY`, which names a column besides if one is missing or badly written.
 //!
 //! Of an opened log (`hlc_open_log`) `push_report` adds the rows of the report, and `push_answer` the one row that answers a question
-//! (`hlc_log_text::LogQuestion`). `claimed_way` is the way that the `l` of a claimed stamp came, event by event.
+//! (`hlc_log_text::LogQuestion`), and `audit_opened` all rows that `audit_run` writes. `claimed_way` is the way that the `l` of a claimed stamp
+//! came, event by event. `causes_of` and `wrongly_carried_at` are what `cause` rows tell of an event, by its place in the log.
 //!
 //! But for that way it finds nothing itself: `hlc_open_log` reads, and `hlc_log_report`, `hlc_causes` and `hlc_explain` find.
 //!
@@ -63,7 +65,7 @@
 //!     ensures { IfOk result (λ audited. IsAudited rules MAX_CAPACITY [] (Some log.now) (Some []) (Some audited.1.items) audited.0) }
 //! {
 //!     let mut rows = Vec::new(alloc);
-//!     let audited = audit_run(alloc, log, &mut rows, rules, &[])?;
+//!     let audited = audit_run(alloc, log, &mut rows, rules, &[], NameKey::fixed())?;
 //!     Ok((audited.outcome, rows))
 //! }
 //! ```
@@ -77,7 +79,7 @@
 //!     question: &LogQuestion,
 //! ) -> Result<Vec<u8>, OutputFault>
 //!     ensures { IfOk result (λ text. (row : Fields)
-//!         × IsAnswer log.now.nodes log.now.labels log.now.log log.now.full (plain_asked question.now) row
+//!         × IsAnswer log.now.files log.now.nodes log.now.labels log.now.log log.now.full (plain_asked question.now) row
 //!         × (text.items ≡ text_of_row row)) }
 //! {
 //!     let mut text = Vec::new(alloc);
@@ -114,12 +116,14 @@ mod rules;
 mod skews;
 mod soundness;
 mod tally;
+mod units;
 mod way;
 mod words;
 
 pub use answer::push_answer;
-pub use audit::{audit_run, audit_up_to};
+pub use audit::{audit_opened, audit_run, audit_up_to};
 pub use audited::Audited;
+pub use causes::{causes_of, wrongly_carried_at};
 pub use claimed::claimed_way;
 pub use hlc_csv::RecordsFault;
 pub use outcome::Outcome;

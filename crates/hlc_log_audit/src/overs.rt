@@ -1,6 +1,6 @@
 // The claims of nodes that are over a limit.
 
-ghost use Rattle.std.specs.Prelude.{◌≡◌, ◌+◌, ◌<◌, ◌≤◌, IfOk, IfSome, List, OnOk, decimal, length};
+ghost use Rattle.std.specs.Prelude.{◌≡◌, ◌+◌, ◌<◌, ◌≤◌, IfOk, IfSome, List, OnOk, length};
 ghost use Rattle.hlc_stamp.specs.declared.limits.TheConstants.{MAX_CAPACITY};
 ghost use Rattle.hlc_csv.specs.Rows.{AddsRow, AddsRows, Fields};
 ghost use Rattle.hlc_log.specs.Events.{event_at};
@@ -11,12 +11,13 @@ ghost use Rattle.hlc_log_audit.specs.Report.{AreOverRows, NamesPlaces, origin_fi
 
 use crate::claimed::brought_in_by;
 use crate::claimed_ahead::claimed_ahead;
+use crate::lines::told_line;
 use crate::nodes::node_of;
 use crate::over::Over;
 use hlc_csv::RowField::{Number, Text};
 use hlc_csv::{OutputFault, RowBuffer};
 use hlc_log_report::OrderedLog;
-use hlc_log_text::node_name;
+use hlc_log_text::{Files, LineText, node_name};
 use hlc_open_log::OpenLog;
 use hlc_stamp::{EventId, NodeId};
 use std::alloc::{AllocError, Global};
@@ -83,15 +84,15 @@ fn overs_of(alloc: Global, log: &OrderedLog, limit: u64) -> Result<Vec<Option<Ov
     Ok(overs)
 }
 
-// The line where the `l` that the event at a place claims came in.
-fn origin_line(log: &OrderedLog, place: EventId) -> u32
+// How the line is told where the `l` that the event at a place claims came in.
+fn told_origin(files: &Files, log: &OrderedLog, place: EventId) -> Result<LineText, AllocError>
     requires ordered { IsInOrder log.now }
     requires rise { LinesRise log.now.events }
     requires exists { place.0 < length log.now.events }
-    ensures { decimal result ≡ origin_field log.now (event_at log.now.events place.0).line }
+    ensures { IfOk result (λ text. text ≡ origin_field files.now log.now (event_at log.now.events place.0).line) }
 {
     let first = brought_in_by(log.execution(), log, log.position(place));
-    log.event(first).line
+    told_line(files, log, first)
 }
 
 // Adds the row of a node whose claims are over the limit.
@@ -103,15 +104,19 @@ fn push_over<W: Write>(
     writer: &mut W,
 ) -> Result<(), OutputFault>
     requires { NamesPlaces log.now.log over }
-    ensures { OnOk result (AddsRow W.contents writer.old writer.new rows.old rows.new (over_fields log.now.nodes log.now.log node.0 over)) }
+    ensures { OnOk result (AddsRow W.contents writer.old writer.new rows.old rows.new (over_fields log.now.files log.now.nodes log.now.log node.0 over)) }
 {
+    let files = log.files();
     let ordered = log.ordered();
     let (word, name) = (Text(b"over"), Text(node_name(log.nodes(), node)));
     let claims = Number(u64::from(over.claims));
-    let first = Number(u64::from(ordered.at(over.first).line));
+    let first = LineText::new(files, u64::from(ordered.at(over.first).line))?;
     let ahead = Number(over.ahead);
-    let origin = Number(u64::from(origin_line(ordered, over.furthest)));
-    rows.push(&[word, name, claims, first, ahead, origin], writer)
+    let origin = told_origin(files, ordered, over.furthest)?;
+    rows.push(
+        &[word, name, claims, first.field(), ahead, origin.field()],
+        writer,
+    )
 }
 
 // Adds the row of a node, if its claims are over the limit.
@@ -123,7 +128,7 @@ fn push_if_over<W: Write>(
     writer: &mut W,
 ) -> Result<(), OutputFault>
     requires { IfSome over (NamesPlaces log.now.log) }
-    ensures { OnOk result (AddsRows W.contents writer.old writer.new rows.old rows.new (over_row log.now.nodes log.now.log node.0 over)) }
+    ensures { OnOk result (AddsRows W.contents writer.old writer.new rows.old rows.new (over_row log.now.files log.now.nodes log.now.log node.0 over)) }
 {
     match over {
         Some(over) => push_over(rows, log, node, over, writer),
@@ -140,7 +145,7 @@ fn push_each_over<W: Write>(
     writer: &mut W,
 ) -> Result<(), OutputFault>
     requires { AreOvers limit (length log.now.nodes) log.now.log.events overs.now }
-    ensures { OnOk result (AddsRows W.contents writer.old writer.new rows.old rows.new (over_rows log.now.nodes log.now.log overs.now)) }
+    ensures { OnOk result (AddsRows W.contents writer.old writer.new rows.old rows.new (over_rows log.now.files log.now.nodes log.now.log overs.now)) }
 {
     for node in 0..log.nodes().len() {
         let over = overs[node];
@@ -157,7 +162,7 @@ pub(crate) fn push_overs<W: Write>(
     limit: Option<u64>,
     writer: &mut W,
 ) -> Result<(), OutputFault>
-    ensures { OnOk result ((added : List Fields) × AreOverRows log.now.nodes log.now.log limit added
+    ensures { OnOk result ((added : List Fields) × AreOverRows log.now.files log.now.nodes log.now.log limit added
         × AddsRows W.contents writer.old writer.new rows.old rows.new added) }
 {
     match limit {

@@ -11,6 +11,7 @@ use crate::counts::push_counts;
 use crate::messages::push_messages;
 use crate::nodes::push_nodes;
 use crate::skews::push_skews;
+use crate::units::push_units;
 use hlc_csv::{OutputFault, RowBuffer};
 use hlc_log_report::{Counts, MessageCounts, Skew, SkewNodes};
 use hlc_open_log::OpenLog;
@@ -18,7 +19,8 @@ use std::alloc::Global;
 use std::collections::BTreeMap;
 use std::io::Write;
 
-/// Adds the rows of the report on a log: the counts of the verdicts, the causes, the nodes, the messages and the skews.
+/// Adds the rows of the report on a log: the counts of the verdicts, the causes, the nodes, the messages, the skews, and
+/// whether readings look as if they had another unit than `l`.
 ///
 /// `counts` has those of its verdicts, `messages` those of its messages, and `skews` the skews between its nodes. It takes memory for each
 /// node, and for the rows. After a fault nothing is promised of what the writer got.
@@ -34,14 +36,16 @@ pub fn push_report<W: Write>(
     requires counts { AreCounted log.now.log log.now.full counts }
     requires messages { messages ≡ message_counts log.now.log }
     requires skews { AreSkews (skeleton_of log.now.log) (reading_told log.now.log) skews.now.entries }
-    ensures { OnOk result ((report : List Fields) × IsReport log.now.nodes log.now.log log.now.full report
+    ensures { OnOk result ((report : List Fields) × IsReport log.now.files log.now.nodes log.now.log log.now.full report
         × AddsRows W.contents writer.old writer.new rows.old rows.new report) }
 {
+    let files = log.files();
     let nodes = log.nodes();
     let ordered = log.ordered();
     push_counts(rows, counts, writer)?;
-    push_causes(rows, nodes, ordered, counts, log.full(), writer)?;
-    push_nodes(alloc, rows, nodes, ordered, writer)?;
+    push_causes(rows, files, nodes, ordered, counts, log.full(), writer)?;
+    push_nodes(alloc, rows, files, nodes, ordered, writer)?;
     push_messages(rows, messages, writer)?;
-    push_skews(rows, nodes, ordered, skews, writer)
+    push_skews(rows, files, nodes, ordered, skews, writer)?;
+    push_units(rows, ordered, counts, writer)
 }

@@ -1,13 +1,14 @@
-ghost use Rattle.std.specs.Prelude.{◌∷◌, [], OnOk, codes, decimal, map};
+ghost use Rattle.std.specs.Prelude.{◌∷◌, [], OnOk, codes, map};
 ghost use Rattle.hlc_csv.specs.Rows.{AddsRow, AddsRows};
 ghost use Rattle.hlc_log_report.specs.InOrder.{IsInOrder, reading_told, skeleton_of};
 ghost use Rattle.hlc_log_report.specs.Skew.{AreSkews};
 ghost use Rattle.hlc_log_audit.specs.Report.{IsSkewOfEvents, skew_row};
 
-use hlc_csv::RowField::{Number, Text};
+use crate::lines::told_line;
+use hlc_csv::RowField::Text;
 use hlc_csv::{OutputFault, RowBuffer};
 use hlc_log_report::{OrderedLog, Skew, SkewNodes};
-use hlc_log_text::{Names, node_name};
+use hlc_log_text::{Files, LineText, Names, node_name};
 use itoa::Buffer;
 use std::collections::BTreeMap;
 use std::io::Write;
@@ -18,21 +19,22 @@ fn push_skew_row<'a, W: Write>(
     from: &'a [u8],
     to: &'a [u8],
     ahead: &'a [u8],
-    lines: (u32, u32),
+    send: &'a LineText,
+    delivery: &'a LineText,
     writer: &mut W,
 ) -> Result<(), OutputFault>
     ensures { OnOk result (AddsRow W.contents writer.old writer.new rows.old rows.new
-        (codes "skew" ∷ from.now ∷ to.now ∷ ahead.now ∷ decimal lines.0 ∷ decimal lines.1 ∷ [])) }
+        (codes "skew" ∷ from.now ∷ to.now ∷ ahead.now ∷ send.now ∷ delivery.now ∷ [])) }
 {
     let (from, to, ahead) = (Text(from), Text(to), Text(ahead));
-    let send = Number(u64::from(lines.0));
-    let delivery = Number(u64::from(lines.1));
+    let (send, delivery) = (send.field(), delivery.field());
     rows.push(&[Text(b"skew"), from, to, ahead, send, delivery], writer)
 }
 
 // Adds the row of the skew between two nodes.
 fn push_skew<W: Write>(
     rows: &mut RowBuffer,
+    files: &Files,
     nodes: &Names,
     log: &OrderedLog,
     between: SkewNodes,
@@ -40,18 +42,20 @@ fn push_skew<W: Write>(
     writer: &mut W,
 ) -> Result<(), OutputFault>
     requires { IsSkewOfEvents log.now skew }
-    ensures { OnOk result (AddsRow W.contents writer.old writer.new rows.old rows.new (skew_row nodes.now log.now (between, skew))) }
+    ensures { OnOk result (AddsRow W.contents writer.old writer.new rows.old rows.new (skew_row files.now nodes.now log.now (between, skew))) }
 {
     let (from, to) = (node_name(nodes, between.from), node_name(nodes, between.to));
-    let lines = (log.event(skew.send).line, log.event(skew.delivery).line);
+    let send = told_line(files, log, skew.send)?;
+    let delivery = told_line(files, log, skew.delivery)?;
     let mut text = Buffer::new();
     let ahead = text.format(i128::from(skew.sent_at) - i128::from(skew.delivered_at));
-    push_skew_row(rows, from, to, ahead.as_bytes(), lines, writer)
+    push_skew_row(rows, from, to, ahead.as_bytes(), &send, &delivery, writer)
 }
 
 // Adds the rows of all skews, in the order of the numbers of the nodes to which the messages went, and of those from which they came.
 pub(crate) fn push_skews<W: Write>(
     rows: &mut RowBuffer,
+    files: &Files,
     nodes: &Names,
     log: &OrderedLog,
     skews: &BTreeMap<SkewNodes, Skew>,
@@ -59,10 +63,10 @@ pub(crate) fn push_skews<W: Write>(
 ) -> Result<(), OutputFault>
     requires ordered { IsInOrder log.now }
     requires skews { AreSkews (skeleton_of log.now) (reading_told log.now) skews.now.entries }
-    ensures { OnOk result (AddsRows W.contents writer.old writer.new rows.old rows.new (map (skew_row nodes.now log.now) skews.now.entries)) }
+    ensures { OnOk result (AddsRows W.contents writer.old writer.new rows.old rows.new (map (skew_row files.now nodes.now log.now) skews.now.entries)) }
 {
     for (between, skew) in skews {
-        push_skew(rows, nodes, log, *between, *skew, writer)?;
+        push_skew(rows, files, nodes, log, *between, *skew, writer)?;
     }
     Ok(())
 }

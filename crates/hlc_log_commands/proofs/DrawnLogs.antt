@@ -4,7 +4,6 @@ use Rattle.std.specs.Prelude.{IsErrOf}
 use Rattle.hlc_causality.specs.declared.receives.Receives.TheVariants.{Tick}
 use Rattle.hlc_stamp.specs.declared.id.EventId.{EventId}
 use Rattle.hlc_diagram.specs.Chosen.{IsMissing}
-use Rattle.hlc_csv.specs.declared.records_fault.RecordsFault.TheVariants.{TooLong}
 use Rattle.hlc_diagram.specs.declared.draw_fault.DrawFault.{DrawFault}
 use Rattle.hlc_diagram.specs.declared.draw_fault.DrawFault.TheVariants as drawing
 use Rattle.hlc_diagram.specs.declared.view.View.{View}
@@ -14,12 +13,15 @@ use Rattle.hlc_log_picture.specs.Drawn.{DrawnLog, IsDrawnOf}
 use Rattle.hlc_log_picture.specs.Judged.{AreEventFindings}
 use Rattle.hlc_log_picture.specs.StampOrder.{IsInStampOrder}
 use Rattle.hlc_log_picture.specs.Viewed.{NamesRow}
-use Rattle.hlc_command_line.specs.declared.line_order.LogRows.{LogRows}
-use Rattle.hlc_command_line.specs.declared.line_order.LogRows.TheVariants.{Around, Between}
-use Rattle.hlc_command_fault.specs.Fault.{IsOfAnswer, draw_stop}
-use Rattle.hlc_command_fault.specs.declared.command_fault.CommandFault.TheVariants.{Records}
+use Rattle.hlc_command_fault.specs.Fault.{IsOfAnswer, IsOfInput, draw_stop}
+use Rattle.hlc_log_text.specs.declared.log_rules.LogRules.{LogRules}
 use Rattle.hlc_command_line.specs.declared.line_order.DrawLogOptions.{DrawLogOptions}
 use Rattle.hlc_log_commands.specs.DrawnLog.{IsAbsent, IsLogDrawnUpToBut, IsOpenedLacking, IsViewOf}
+use Rattle.hlc_log_commands.specs.PartLines.{part_in}
+use Rattle.hlc_log_commands.specs.Records.{IsLengthTold}
+use Rattle.hlc_log_commands.specs.declared.part_lines.PartLines.{PartLines}
+use Rattle.hlc_log_commands.specs.declared.part_lines.RowLines.{RowLines}
+use Rattle.hlc_log_commands.specs.declared.part_lines.RowLines.TheVariants.{Around, Between}
 
 -- the row of a line is missing only if the line has no event
 row_absent : (drawn : DrawnLog) (line : Option ℕ) (row : Option EventId) → NamesRow drawn line row → IsMissing drawn.log.events row → IsAbsent drawn line
@@ -32,22 +34,23 @@ row_absent drawn (Some line) (Some k) (inl on) missing =
 row_absent drawn (Some line) (Some k) (inr none) missing = none.0
 
 -- a view explains the event of the line that is named
-view_names : (drawn : DrawnLog) (rows : LogRows) (explained : Option ℕ) (view : View) → IsViewOf drawn rows explained view
+view_names : (drawn : DrawnLog) (rows : RowLines) (explained : Option ℕ) (view : View) → IsViewOf drawn rows explained view
     → NamesRow drawn explained view.explained
 view_names drawn (Between first last) explained view is = subst (λ (v : View). NamesRow drawn explained v.explained) (sym is.6) is.5
 view_names drawn (Around line rows) explained view is = subst (λ (v : View). NamesRow drawn explained v.explained) (sym is.4) is.3
 
-pub explained_absent : (drawn : DrawnLog) (rows : LogRows) (explained : Option ℕ) (view : View) → IsViewOf drawn rows explained view
+pub explained_absent : (drawn : DrawnLog) (rows : RowLines) (explained : Option ℕ) (view : View) → IsViewOf drawn rows explained view
     → IsMissing drawn.log.events view.explained → IsAbsent drawn explained
 explained_absent drawn rows explained view is missing = row_absent drawn explained view.explained (view_names drawn rows explained view is) missing
 
 -- what is drawn is the opened log, put in the order of its rows
 pub drawn_of : (opened ordered : OpenedLog) (drawn : DrawnLog) → IsReordered opened ordered → IsInOrder drawn.log
-    → (opened.log.receives ≡ Tick → IsInStampOrder ordered.log) → drawn.log ≡ ordered.log → drawn.nodes ≡ ordered.nodes → drawn.labels ≡ ordered.labels
+    → (opened.log.receives ≡ Tick → IsInStampOrder ordered.log) → drawn.log ≡ ordered.log → drawn.files ≡ ordered.files → drawn.nodes ≡ ordered.nodes → drawn.labels ≡ ordered.labels
     → AreEventFindings ordered.log ordered.full drawn.findings → IsDrawnOf opened drawn
-drawn_of opened ordered drawn same in_order by_stamp log nodes labels judged = record {
+drawn_of opened ordered drawn same in_order by_stamp log files nodes labels judged = record {
   receives = ap (λ (l : LogInOrder). l.receives) log ∙ same.receives;
   events = ap (λ (l : LogInOrder). l.events) log ∙ same.events;
+  files = files ∙ same.files;
   nodes = nodes ∙ same.nodes;
   labels = labels ∙ same.labels;
   in_order = in_order;
@@ -58,15 +61,23 @@ drawn_of opened ordered drawn same in_order by_stamp log nodes labels judged = r
 }
 
 -- the fault of drawing an opened log is of an answer only if the log lacks an event that is named
-pub told_but : (most : ℕ) (options : DrawLogOptions) (input before after : Option (List ℕ)) (opened : OpenedLog) (fault : DrawFault)
-    → IsOpened options.records most input opened → (IsErrOf {T = Unit {0}} (Err fault) drawing.NoEvent → IsOpenedLacking opened options.part before after)
+pub told_but : (most : ℕ) (options : DrawLogOptions) (input before after : Option (List ℕ)) (opened : OpenedLog) (part : PartLines) (fault : DrawFault)
+    → part ≡ part_in opened.files options.part → IsOpened options.records most input opened
+    → (IsErrOf {T = Unit {0}} (Err fault) drawing.NoEvent → IsOpenedLacking opened part before after)
     → IsOfAnswer (draw_stop fault) → IsLogDrawnUpToBut most (draw_stop fault) options input before after
-told_but most options input before after opened drawing.NoEvent is lacks told = (opened, is, lacks refl)
-told_but most options input before after opened drawing.Write is lacks told = absurd told
-told_but most options input before after opened drawing.Memory is lacks told = absurd told
+told_but most options input before after opened part drawing.NoEvent same is lacks told =
+    (opened, is, subst (λ (p : PartLines). IsOpenedLacking opened p before after) same (lacks refl))
+told_but most options input before after opened part drawing.Write same is lacks told = absurd told
+told_but most options input before after opened part drawing.Memory same is lacks told = absurd told
 
--- it is never that there are too many records
-pub never_too_long : (fault : DrawFault) → IsErrOf {T = Unit {0}} (Err (draw_stop fault)) (Records TooLong) → ⊥
-never_too_long drawing.NoEvent is = absurd cc
-never_too_long drawing.Write is = absurd cc
-never_too_long drawing.Memory is = absurd cc
+-- it tells no number of records
+pub tells_no_length : (most : ℕ) (rules : LogRules) (input : Option (List ℕ)) (fault : DrawFault) → IsLengthTold most rules input (draw_stop fault)
+tells_no_length most rules input drawing.NoEvent = tt
+tells_no_length most rules input drawing.Write = tt
+tells_no_length most rules input drawing.Memory = tt
+
+-- nor is it that the input can't be read
+pub never_of_input : (fault : DrawFault) → IsOfInput (draw_stop fault) → ⊥
+never_of_input drawing.NoEvent is = is
+never_of_input drawing.Write is = is
+never_of_input drawing.Memory is = is

@@ -1,12 +1,15 @@
 -- What was audited.
 use Rattle.std.specs.Prelude.{◌≡◌, ◌==◌, ◌⊎◌, ⊤, Bool, ℕ, List, Option, None, Some, if◌then◌else◌, true, false}
 use Rattle.hlc_stamp.specs.declared.limits.TheConstants.{MAX_CAPACITY}
-use Rattle.hlc_log_audit.specs.Audit.{HasEventCount, IsAudited}
+use Rattle.hlc_log_audit.specs.Audit.{HasEventCount}
 use Rattle.hlc_log_audit.specs.declared.outcome.Outcome.{Outcome}
 use Rattle.hlc_log_audit.specs.declared.outcome.Outcome.TheVariants as outcome
 use Rattle.hlc_log_audit.specs.declared.rules.AuditRules.{AuditRules}
+use Rattle.hlc_log_groups.specs.GroupRows.{IsGroupedAudit}
 use Rattle.hlc_log_text.specs.declared.question.LogQuestion.{LogQuestion}
 use Rattle.hlc_command_line.specs.declared.line_order.AuditOptions.{AuditOptions}
+use Rattle.hlc_csv.specs.declared.records_fault.RecordsFault.{RecordsFault}
+use Rattle.hlc_csv.specs.declared.records_fault.RecordsFault.TheVariants as records
 use Rattle.hlc_command_fault.specs.declared.command_fault.CommandFault.{CommandFault}
 use Rattle.hlc_command_fault.specs.declared.command_fault.CommandFault.TheVariants as stop
 use Rattle.hlc_command_fault.specs.declared.no_events.NoEvents.{NoEvents}
@@ -16,9 +19,10 @@ use Rattle.hlc_command_fault.specs.declared.no_events.NoEvents.TheVariants.{Log}
 abbrev pub rules_of : AuditOptions → AuditRules
 rules_of options = record { records = options.records; limit = options.limit; report = options.report }
 
--- the log was audited by these options, with these questions asked beside it, and with this outcome
+-- the log was audited by these options, with these questions asked beside it, and with this outcome; and then its causes were told in groups, if the
+-- options want that
 abbrev pub IsAuditedBy : AuditOptions → List LogQuestion → (input before after : Option (List ℕ)) → Outcome → Type 0
-IsAuditedBy options asked input before after found = IsAudited (rules_of options) MAX_CAPACITY asked input before after found
+IsAuditedBy options asked input before after found = IsGroupedAudit (rules_of options) options.groups asked input before after found
 
 -- the options let an outcome pass: the log isn't over the limit, and if they are strict, it isn't broken
 abbrev pub LetPass : AuditOptions → Outcome → Type 0
@@ -26,6 +30,11 @@ LetPass options outcome.Sound = ⊤
 LetPass options outcome.OverLimit = ⊥
 LetPass options (outcome.Broken over) = (options.strict ≡ false) × (over ≡ false)
 LetPass options outcome.BadLog = ⊥
+
+-- the fault of an audit, as a command's: a log that is too long has more records than this
+abbrev pub audit_stop : RecordsFault → CommandFault
+audit_stop records.TooLong = stop.LogTooLong MAX_CAPACITY
+audit_stop fault = stop.Records fault
 
 -- the log was audited, and the options let the outcome pass
 abbrev pub IsAuditPassed : AuditOptions → List LogQuestion → (input before after : Option (List ℕ)) → Type 0

@@ -10,16 +10,17 @@ use Rattle.hlc_open_log.specs.Opened.{IsOpened, OpenedLog}
 use Rattle.hlc_log_picture.specs.Drawn.{DrawnLog, IsDrawnOf, drawn_log, drawn_log_chain}
 use Rattle.hlc_log_picture.specs.Viewed.{HasNoRow, IsRowOn, IsViewAround, IsViewBetween}
 use Rattle.hlc_command_line.specs.declared.line_order.DrawLogOptions.{DrawLogOptions}
-use Rattle.hlc_command_line.specs.declared.line_order.LogPart.{LogPart}
-use Rattle.hlc_command_line.specs.declared.line_order.LogPart.TheVariants.{Chain, Rows}
-use Rattle.hlc_command_line.specs.declared.line_order.LogRows.{LogRows}
-use Rattle.hlc_command_line.specs.declared.line_order.LogRows.TheVariants.{Around, Between}
 use Rattle.hlc_command_fault.specs.declared.command_fault.CommandFault.{CommandFault}
 use Rattle.hlc_command_fault.specs.declared.command_fault.CommandFault.TheVariants as stop
+use Rattle.hlc_log_commands.specs.PartLines.{part_in}
 use Rattle.hlc_log_commands.specs.Unopened.{IsToldBad}
+use Rattle.hlc_log_commands.specs.declared.part_lines.PartLines.{PartLines}
+use Rattle.hlc_log_commands.specs.declared.part_lines.PartLines.TheVariants.{Chain, Rows}
+use Rattle.hlc_log_commands.specs.declared.part_lines.RowLines.{RowLines}
+use Rattle.hlc_log_commands.specs.declared.part_lines.RowLines.TheVariants.{Around, Between}
 
 -- a view has the rows of a log that are to be drawn, and explains the event of a line
-abbrev pub IsViewOf : DrawnLog → LogRows → (explained : Option ℕ) → View → Type 0
+abbrev pub IsViewOf : DrawnLog → RowLines → (explained : Option ℕ) → View → Type 0
 IsViewOf drawn (Between first last) explained view = IsViewBetween drawn first last explained view
 IsViewOf drawn (Around line rows) explained view = IsViewAround drawn line rows explained view
 
@@ -29,34 +30,34 @@ IsAbsent drawn None = ⊥
 IsAbsent drawn (Some line) = HasNoRow drawn line
 
 -- the line of the event at which rows begin, or about which they stand, if one is named
-abbrev pub line_of_rows : LogRows → Option ℕ
+abbrev pub line_of_rows : RowLines → Option ℕ
 line_of_rows (Between first last) = first
 line_of_rows (Around line rows) = Some line
 
 -- the event to explain is named and isn't there, or that of the rows
-abbrev pub LacksNamed : DrawnLog → LogPart → Type 0
+abbrev pub LacksNamed : DrawnLog → PartLines → Type 0
 LacksNamed drawn (Rows rows explained) = IsAbsent drawn explained ⊎ IsAbsent drawn (line_of_rows rows)
 LacksNamed drawn (Chain line) = HasNoRow drawn line
 
 -- the output got the picture of some rows of a log, or that of the chain of the event of a line alone
-abbrev pub HasPicture : DrawnLog → LogPart → (before after : Option (List ℕ)) → Type 0
+abbrev pub HasPicture : DrawnLog → PartLines → (before after : Option (List ℕ)) → Type 0
 HasPicture drawn (Rows rows explained) before after =
     (view : View) × IsViewOf drawn rows explained view × Appends before after (picture_text (drawn_log drawn view))
 HasPicture drawn (Chain line) before after =
     (row : EventId) × IsRowOn drawn line row.0 × Appends before after (chain_picture_text (drawn_log_chain drawn row))
 
 -- and the log has the events that are named
-abbrev pub IsPartDrawn : DrawnLog → LogPart → (before after : Option (List ℕ)) → Type 0
+abbrev pub IsPartDrawn : DrawnLog → PartLines → (before after : Option (List ℕ)) → Type 0
 IsPartDrawn drawn part before after = HasPicture drawn part before after × (¬ LacksNamed drawn part)
 
 -- a part of an opened log is drawn
-pub record IsOpenedDrawn (opened : OpenedLog) (part : LogPart) (before after : Option (List ℕ)) : Type 0 where
+pub record IsOpenedDrawn (opened : OpenedLog) (part : PartLines) (before after : Option (List ℕ)) : Type 0 where
   pub drawn : DrawnLog
   pub is_drawn : IsDrawnOf opened drawn
   pub picture : IsPartDrawn drawn part before after
 
 -- an event is named that the log doesn't have, and the output got nothing
-pub record IsOpenedLacking (opened : OpenedLog) (part : LogPart) (before after : Option (List ℕ)) : Type 0 where
+pub record IsOpenedLacking (opened : OpenedLog) (part : PartLines) (before after : Option (List ℕ)) : Type 0 where
   pub drawn : DrawnLog
   pub is_drawn : IsDrawnOf opened drawn
   pub absent : LacksNamed drawn part
@@ -65,7 +66,7 @@ pub record IsOpenedLacking (opened : OpenedLog) (part : LogPart) (before after :
 -- the input is a log of at most so many records, and it was drawn
 abbrev pub IsLogDrawnUpTo : (most : ℕ) → DrawLogOptions → (input before after : Option (List ℕ)) → Type 0
 IsLogDrawnUpTo most options input before after =
-    (opened : OpenedLog) × IsOpened options.records most input opened × IsOpenedDrawn opened options.part before after
+    (opened : OpenedLog) × IsOpened options.records most input opened × IsOpenedDrawn opened (part_in opened.files options.part) before after
 
 -- the input is a log, and it was drawn
 abbrev pub IsLogDrawnWhole : DrawLogOptions → (input before after : Option (List ℕ)) → Type 0
@@ -74,7 +75,7 @@ IsLogDrawnWhole options input before after = IsLogDrawnUpTo MAX_CAPACITY options
 -- the input is a log, and wasn't drawn since it lacks an event that is named
 abbrev pub IsLogLacking : (most : ℕ) → DrawLogOptions → (input before after : Option (List ℕ)) → Type 0
 IsLogLacking most options input before after =
-    (opened : OpenedLog) × IsOpened options.records most input opened × IsOpenedLacking opened options.part before after
+    (opened : OpenedLog) × IsOpened options.records most input opened × IsOpenedLacking opened (part_in opened.files options.part) before after
 
 -- the input is no log, and the output got the row by which an audit says why
 abbrev pub IsNotDrawn : (most : ℕ) → DrawLogOptions → (input before after : Option (List ℕ)) → Type 0

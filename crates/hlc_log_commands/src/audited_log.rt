@@ -3,30 +3,35 @@
 ghost use Rattle.std.specs.Prelude.{◌≡◌, IfErr, IfOk, IsErrOf, None, OnOk, true};
 ghost use Rattle.hlc_stamp.specs.declared.limits.TheConstants.{MAX_CAPACITY};
 ghost use Rattle.hlc_log_text.specs.ReadLog.{HasTooMany};
-ghost use Rattle.hlc_log_audit.specs.Audit.{IsAudited, TellsEvents};
+ghost use Rattle.hlc_log_audit.specs.Audit.{TellsEvents};
+ghost use Rattle.hlc_log_groups.specs.GroupRows.{IsGroupedAudit};
 ghost use Rattle.hlc_command_fault.specs.Fault.{IsOfAnswer, IsOfInput};
-ghost use Rattle.hlc_log_commands.specs.Audited.{IsAuditPassed, IsAuditedBut, IsLogNote, log_note};
-ghost use Rattle.hlc_log_commands.specs.Records.{records_in};
+ghost use Rattle.hlc_log_commands.specs.Audited.{IsAuditPassed, IsAuditedBut, IsLogNote, audit_stop, log_note};
+ghost use Rattle.hlc_log_commands.specs.Records.{IsLengthTold, records_in};
 
 use hlc_command_fault::{CommandFault, NoEvents};
 use hlc_command_line::AuditOptions;
 use hlc_csv::RecordsFault;
 use hlc_json_lines::{JsonRules, LogInput};
-use hlc_log_audit::{AuditRules, Audited, Outcome, audit_run};
-use hlc_log_text::LogQuestion;
+use hlc_log_audit::{AuditRules, Audited, Outcome};
+use hlc_log_groups::audit_with_groups;
+use hlc_log_text::{LogQuestion, NameKey};
+use hlc_stamp::MAX_CAPACITY;
 use std::alloc::Global;
 use std::io::{Read, Write};
 
-// Audits a log in records, or in lines of JSON.
+// Audits a log in records, or in lines of JSON, and tells its causes in groups, if that is wanted.
 fn audit_records<I: Read + Drop, O: Write>(
     alloc: Global,
     reader: I,
     writer: &mut O,
     rules: AuditRules,
+    grouped: bool,
     asked: &[LogQuestion],
     json: Option<JsonRules>,
+    key: NameKey,
 ) -> Result<Audited, RecordsFault>
-    ensures audited { IfOk result (λ audited. IsAudited rules MAX_CAPACITY asked.now
+    ensures audited { IfOk result (λ audited. IsGroupedAudit rules grouped asked.now
         (records_in json (I.remaining reader)) (O.contents writer.old) (O.contents writer.new) audited.outcome) }
     ensures counted { IfOk result (TellsEvents rules.records MAX_CAPACITY (records_in json (I.remaining reader))) }
     ensures read { IsErrOf result RecordsFault.Read → writer.new ≡ writer.old }
@@ -34,8 +39,20 @@ fn audit_records<I: Read + Drop, O: Write>(
     ensures nothing { IsErrOf result RecordsFault.TooLong → writer.new ≡ writer.old }
 {
     match LogInput::new(alloc, reader, json) {
-        Ok(input) => audit_run(alloc, input, writer, rules, asked),
+        Ok(input) => audit_with_groups(alloc, input, writer, rules, grouped, asked, key),
         Err(_) => Err(RecordsFault::Memory),
+    }
+}
+
+// The fault of an audit, as a command's.
+fn audit_stop(fault: RecordsFault) -> CommandFault
+    ensures { result ≡ audit_stop fault }
+{
+    match fault {
+        RecordsFault::TooLong => CommandFault::LogTooLong { most: MAX_CAPACITY },
+        RecordsFault::Read | RecordsFault::Write | RecordsFault::Memory => {
+            CommandFault::Records(fault)
+        }
     }
 }
 
@@ -54,7 +71,8 @@ fn note_on(events: u32, strict: bool) -> Result<Option<NoEvents>, CommandFault>
 
 /// Audits a log of another system, and answers what is asked beside it. The log is lines of JSON if there are rules for these. If the input is
 /// not a log, the log is broken or has no event and the options are strict, or it is over the limit, the rows that say so are written all the same.
-/// Of a log that is both, a strict audit says that it is broken. The note on the log is there if it has no event.
+/// Of a log that is both, a strict audit says that it is broken. The note on the log is there if it has no event. If the options want that, the
+/// causes are told in groups, too, below all else.
 pub fn audit_log<I: Read + Drop, O: Write>(
     alloc: Global,
     reader: I,
@@ -62,6 +80,7 @@ pub fn audit_log<I: Read + Drop, O: Write>(
     options: AuditOptions,
     asked: &[LogQuestion],
     json: Option<JsonRules>,
+    key: NameKey,
 ) -> Result<Option<NoEvents>, CommandFault>
     ensures done { OnOk result (IsAuditPassed options asked.now
         (records_in json (I.remaining reader)) (O.contents writer.old) (O.contents writer.new)) }
@@ -70,15 +89,26 @@ pub fn audit_log<I: Read + Drop, O: Write>(
     ensures told { IfErr result (λ fault. IsOfAnswer fault → IsAuditedBut fault options asked.now
         (records_in json (I.remaining reader)) (O.contents writer.old) (O.contents writer.new)) }
     ensures unread { IfErr result (λ fault. IsOfInput fault → writer.new ≡ writer.old) }
-    ensures too_long { IsErrOf result (CommandFault.Records RecordsFault.TooLong)
-        → HasTooMany options.records MAX_CAPACITY (records_in json (I.remaining reader)) }
+    ensures too_long { IfErr result (IsLengthTold MAX_CAPACITY options.records (records_in json (I.remaining reader))) }
 {
     let rules = AuditRules {
         records: options.records,
         limit: options.limit,
         report: options.report,
     };
-    let audited = audit_records(alloc, reader, writer, rules, asked, json)?;
+    let audited = match audit_records(
+        alloc,
+        reader,
+        writer,
+        rules,
+        options.groups,
+        asked,
+        json,
+        key,
+    ) {
+        Ok(audited) => audited,
+        Err(fault) => return Err(audit_stop(fault)),
+    };
     match audited.outcome {
         Outcome::BadLog => Err(CommandFault::BadLog),
         Outcome::Broken { .. } if options.strict => Err(CommandFault::BrokenStamps),

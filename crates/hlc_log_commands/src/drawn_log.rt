@@ -2,25 +2,25 @@
 
 ghost use Rattle.std.specs.Prelude.{◌≡◌, ◌↔◌, ◌≤◌, IfErr, IsErrOf, IsTrue, OnOk};
 ghost use Rattle.hlc_stamp.specs.declared.limits.TheConstants.{MAX_CAPACITY};
-ghost use Rattle.hlc_log_text.specs.ReadLog.{HasTooMany};
-ghost use Rattle.hlc_command_line.specs.declared.line_order.LogPart.TheVariants.{Chain, Rows};
 ghost use Rattle.hlc_command_fault.specs.Fault.{IsOfAnswer, IsOfInput};
 ghost use Rattle.hlc_log_commands.specs.DrawnLog.{IsAbsent, IsLogDrawnBut, IsLogDrawnUpTo, IsLogDrawnUpToBut, IsLogDrawnWhole, IsOpenedDrawn, IsOpenedLacking, IsPartDrawn, IsViewOf, LacksNamed, line_of_rows};
-ghost use Rattle.hlc_log_commands.specs.Records.{records_in};
+ghost use Rattle.hlc_log_commands.specs.Records.{IsLengthTold, records_in};
+ghost use Rattle.hlc_log_commands.specs.declared.part_lines.PartLines.TheVariants.{Chain, Rows};
 
 use crate::opening::open_or_tell;
+use crate::part_lines::{PartLines, RowLines, part_in};
 use hlc_command_fault::CommandFault;
-use hlc_command_line::{DrawLogOptions, LogPart, LogRows};
-use hlc_csv::RecordsFault;
+use hlc_command_line::DrawLogOptions;
 use hlc_json_lines::JsonRules;
 use hlc_log_picture::{DrawFault, PicturedLog, View, draw, draw_chain, put_in_row_order};
+use hlc_log_text::NameKey;
 use hlc_open_log::OpenLog;
 use hlc_stamp::MAX_CAPACITY;
 use std::alloc::Global;
 use std::io::{Read, Write};
 
 // Whether a line is named, and the record of no event begins there.
-fn is_absent(log: &PicturedLog<'_>, line: Option<u32>) -> bool
+fn is_absent(log: &PicturedLog<'_>, line: Option<u64>) -> bool
     ensures { IsTrue result ↔ IsAbsent log.now line }
 {
     match line {
@@ -30,27 +30,27 @@ fn is_absent(log: &PicturedLog<'_>, line: Option<u32>) -> bool
 }
 
 // Whether the event at which rows begin, or about which they stand, is named and isn't there.
-fn lacks_rows(log: &PicturedLog<'_>, rows: LogRows) -> bool
+fn lacks_rows(log: &PicturedLog<'_>, rows: RowLines) -> bool
     ensures { IsTrue result ↔ IsAbsent log.now (line_of_rows rows) }
 {
     match rows {
-        LogRows::Between { from, to: _ } => is_absent(log, from),
-        LogRows::Around { line, rows: _ } => is_absent(log, Some(line)),
+        RowLines::Between { from, to: _ } => is_absent(log, from),
+        RowLines::Around { line, rows: _ } => is_absent(log, Some(line)),
     }
 }
 
 // What is drawn of a log by these rows.
-fn view_of(log: &PicturedLog<'_>, rows: LogRows, explained: Option<u32>) -> View
+fn view_of(log: &PicturedLog<'_>, rows: RowLines, explained: Option<u64>) -> View
     ensures { IsViewOf log.now rows explained result }
 {
     match rows {
-        LogRows::Between { from, to } => log.view(from, to, explained),
-        LogRows::Around { line, rows } => log.view_around(line, rows, explained),
+        RowLines::Between { from, to } => log.view(from, to, explained),
+        RowLines::Around { line, rows } => log.view_around(line, rows, explained),
     }
 }
 
 // Whether the event to explain is named and isn't there, or that of the rows isn't.
-fn lacks_named(log: &PicturedLog<'_>, rows: LogRows, explained: Option<u32>) -> bool
+fn lacks_named(log: &PicturedLog<'_>, rows: RowLines, explained: Option<u64>) -> bool
     ensures { IsTrue result ↔ LacksNamed log.now (Rows rows explained) }
 {
     is_absent(log, explained) || lacks_rows(log, rows)
@@ -60,8 +60,8 @@ fn lacks_named(log: &PicturedLog<'_>, rows: LogRows, explained: Option<u32>) -> 
 fn draw_rows<O: Write>(
     alloc: Global,
     log: &PicturedLog<'_>,
-    rows: LogRows,
-    explained: Option<u32>,
+    rows: RowLines,
+    explained: Option<u64>,
     writer: &mut O,
 ) -> Result<(), DrawFault>
     ensures done { OnOk result (IsPartDrawn log.now (Rows rows explained) (O.contents writer.old) (O.contents writer.new)) }
@@ -78,7 +78,7 @@ fn draw_rows<O: Write>(
 fn draw_chain_of<O: Write>(
     alloc: Global,
     log: &PicturedLog<'_>,
-    line: u32,
+    line: u64,
     writer: &mut O,
 ) -> Result<(), DrawFault>
     ensures done { OnOk result (IsPartDrawn log.now (Chain line) (O.contents writer.old) (O.contents writer.new)) }
@@ -95,7 +95,7 @@ fn draw_chain_of<O: Write>(
 fn draw_part<O: Write>(
     alloc: Global,
     log: &PicturedLog<'_>,
-    part: LogPart,
+    part: PartLines,
     writer: &mut O,
 ) -> Result<(), DrawFault>
     ensures done { OnOk result (IsPartDrawn log.now part (O.contents writer.old) (O.contents writer.new)) }
@@ -103,8 +103,8 @@ fn draw_part<O: Write>(
         → LacksNamed log.now part × (O.contents writer.new ≡ O.contents writer.old) }
 {
     match part {
-        LogPart::Rows { rows, explained } => draw_rows(alloc, log, rows, explained, writer),
-        LogPart::Chain { line } => draw_chain_of(alloc, log, line, writer),
+        PartLines::Rows { rows, explained } => draw_rows(alloc, log, rows, explained, writer),
+        PartLines::Chain { line } => draw_chain_of(alloc, log, line, writer),
     }
 }
 
@@ -112,7 +112,7 @@ fn draw_part<O: Write>(
 fn draw_opened<O: Write>(
     alloc: Global,
     log: &mut OpenLog,
-    part: LogPart,
+    part: PartLines,
     writer: &mut O,
 ) -> Result<(), DrawFault>
     ensures done { OnOk result (IsOpenedDrawn log.old part (O.contents writer.old) (O.contents writer.new)) }
@@ -123,6 +123,30 @@ fn draw_opened<O: Write>(
     draw_part(alloc, &pictured, part, writer)
 }
 
+// Draws a part of a log of at most so many records, by options that are lent: whoever owns them has one way out, on which they are dropped.
+fn draw_lent<I: Read + Drop, O: Write>(
+    alloc: Global,
+    reader: I,
+    writer: &mut O,
+    options: &DrawLogOptions,
+    json: Option<JsonRules>,
+    most: u32,
+    key: NameKey,
+) -> Result<(), CommandFault>
+    requires { most ≤ MAX_CAPACITY }
+    ensures done { OnOk result (IsLogDrawnUpTo most options.now
+        (records_in json (I.remaining reader)) (O.contents writer.old) (O.contents writer.new)) }
+    ensures told { IfErr result (λ fault. IsOfAnswer fault → IsLogDrawnUpToBut most fault options.now
+        (records_in json (I.remaining reader)) (O.contents writer.old) (O.contents writer.new)) }
+    ensures unread { IfErr result (λ fault. IsOfInput fault → writer.new ≡ writer.old) }
+    ensures too_long { IfErr result (IsLengthTold most options.now.records (records_in json (I.remaining reader))) }
+{
+    let mut log = open_or_tell(alloc, reader, writer, options.records, json, most, key)?;
+    let part = part_in(log.files(), &options.part);
+    draw_opened(alloc, &mut log, part, writer)?;
+    Ok(())
+}
+
 /// Draws a part of a log of at most so many records, as `draw_log` does.
 pub fn draw_log_up_to<I: Read + Drop, O: Write>(
     alloc: Global,
@@ -131,6 +155,7 @@ pub fn draw_log_up_to<I: Read + Drop, O: Write>(
     options: DrawLogOptions,
     json: Option<JsonRules>,
     most: u32,
+    key: NameKey,
 ) -> Result<(), CommandFault>
     requires { most ≤ MAX_CAPACITY }
     ensures done { OnOk result (IsLogDrawnUpTo most options
@@ -138,12 +163,9 @@ pub fn draw_log_up_to<I: Read + Drop, O: Write>(
     ensures told { IfErr result (λ fault. IsOfAnswer fault → IsLogDrawnUpToBut most fault options
         (records_in json (I.remaining reader)) (O.contents writer.old) (O.contents writer.new)) }
     ensures unread { IfErr result (λ fault. IsOfInput fault → writer.new ≡ writer.old) }
-    ensures too_long { IsErrOf result (CommandFault.Records RecordsFault.TooLong)
-        → HasTooMany options.records most (records_in json (I.remaining reader)) }
+    ensures too_long { IfErr result (IsLengthTold most options.records (records_in json (I.remaining reader))) }
 {
-    let mut log = open_or_tell(alloc, reader, writer, options.records, json, most)?;
-    draw_opened(alloc, &mut log, options.part, writer)?;
-    Ok(())
+    draw_lent(alloc, reader, writer, &options, json, most, key)
 }
 
 /// Draws a part of a log of another system, which is lines of JSON if there are rules for these. Where receives tick its rows are in the order
@@ -155,13 +177,13 @@ pub fn draw_log<I: Read + Drop, O: Write>(
     writer: &mut O,
     options: DrawLogOptions,
     json: Option<JsonRules>,
+    key: NameKey,
 ) -> Result<(), CommandFault>
     ensures done { OnOk result (IsLogDrawnWhole options (records_in json (I.remaining reader)) (O.contents writer.old) (O.contents writer.new)) }
     ensures told { IfErr result (λ fault. IsOfAnswer fault → IsLogDrawnBut fault options
         (records_in json (I.remaining reader)) (O.contents writer.old) (O.contents writer.new)) }
     ensures unread { IfErr result (λ fault. IsOfInput fault → writer.new ≡ writer.old) }
-    ensures too_long { IsErrOf result (CommandFault.Records RecordsFault.TooLong)
-        → HasTooMany options.records MAX_CAPACITY (records_in json (I.remaining reader)) }
+    ensures too_long { IfErr result (IsLengthTold MAX_CAPACITY options.records (records_in json (I.remaining reader))) }
 {
-    draw_log_up_to(alloc, reader, writer, options, json, MAX_CAPACITY)
+    draw_log_up_to(alloc, reader, writer, options, json, MAX_CAPACITY, key)
 }

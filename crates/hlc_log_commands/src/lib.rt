@@ -3,7 +3,8 @@
 //! Each is a function over a reader and a writer, and answers with the fault that stopped it.
 //!
 //! - `audit_log` audits a log, as `hlc audit` does, and answers what is asked beside it.
-//! - `draw_log` draws a part of it, as `hlc draw-log` does, and `draw_log_up_to` one of a log of at most so many records.
+//! - `draw_log` draws a part of it, as `hlc draw-log` does, and `draw_log_up_to` one of a log of at most so many records. Where a part is named by
+//!   lines in files, the log that was read says which lines these are.
 //! - `vectors_of_log` writes it with the vectors of its events, as `hlc vectors` does.
 //!
 //! A log is read in records, or in lines of JSON, if there are rules for these (`hlc_json_lines`). It reads no command line: `hlc_command_line`
@@ -14,8 +15,10 @@ mod audited_log;
 mod drawn_log;
 mod log_with_vectors;
 mod opening;
+mod part_lines;
 
 pub use audited_log::audit_log;
 pub use drawn_log::{draw_log, draw_log_up_to};
 pub use hlc_command_fault::CommandFault;
+pub use hlc_log_text::NameKey;
 pub use log_with_vectors::vectors_of_log;

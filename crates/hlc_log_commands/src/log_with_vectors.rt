@@ -1,20 +1,18 @@
 // Another system's log with the vectors of its events.
 
-ghost use Rattle.std.specs.Prelude.{◌≡◌, IfErr, IsErrOf, OnOk};
+ghost use Rattle.std.specs.Prelude.{◌≡◌, IfErr, OnOk};
 ghost use Rattle.std.specs.Io.KnownBytes.{Appends};
 ghost use Rattle.hlc_stamp.specs.declared.limits.TheConstants.{MAX_CAPACITY};
-ghost use Rattle.hlc_log_text.specs.ReadLog.{HasTooMany};
 ghost use Rattle.hlc_log_vectors.specs.LogVectors.{log_vector_text};
 ghost use Rattle.hlc_command_fault.specs.Fault.{IsOfAnswer, IsOfInput};
 ghost use Rattle.hlc_log_commands.specs.LogVectors.{HasVectors};
-ghost use Rattle.hlc_log_commands.specs.Records.{records_in};
+ghost use Rattle.hlc_log_commands.specs.Records.{IsLengthTold, records_in};
 ghost use Rattle.hlc_log_commands.specs.Unopened.{IsUnopened};
 
 use crate::opening::open_or_tell;
 use hlc_command_fault::CommandFault;
-use hlc_csv::RecordsFault;
 use hlc_json_lines::JsonRules;
-use hlc_log_text::LogRules;
+use hlc_log_text::{LogRules, NameKey};
 use hlc_log_vectors::write_log_vectors;
 use hlc_open_log::OpenLog;
 use hlc_stamp::MAX_CAPACITY;
@@ -39,15 +37,15 @@ pub fn vectors_of_log<I: Read + Drop, O: Write>(
     writer: &mut O,
     records: LogRules,
     json: Option<JsonRules>,
+    key: NameKey,
 ) -> Result<(), CommandFault>
     ensures done { OnOk result (HasVectors records (records_in json (I.remaining reader)) (O.contents writer.old) (O.contents writer.new)) }
     ensures told { IfErr result (λ fault. IsOfAnswer fault → IsUnopened MAX_CAPACITY fault records
         (records_in json (I.remaining reader)) (O.contents writer.old) (O.contents writer.new)) }
     ensures unread { IfErr result (λ fault. IsOfInput fault → writer.new ≡ writer.old) }
-    ensures too_long { IsErrOf result (CommandFault.Records RecordsFault.TooLong)
-        → HasTooMany records MAX_CAPACITY (records_in json (I.remaining reader)) }
+    ensures too_long { IfErr result (IsLengthTold MAX_CAPACITY records (records_in json (I.remaining reader))) }
 {
-    match open_or_tell(alloc, reader, writer, records, json, MAX_CAPACITY) {
+    match open_or_tell(alloc, reader, writer, records, json, MAX_CAPACITY, key) {
         Ok(log) => write_opened(alloc, &log, writer),
         Err(fault) => Err(fault),
     }

@@ -1,18 +1,17 @@
 // A log that is opened, or told of.
 
-ghost use Rattle.std.specs.Prelude.{◌≡◌, ◌≤◌, IfErr, IfOk, IsErrOf, OnOk};
+ghost use Rattle.std.specs.Prelude.{◌≡◌, ◌≤◌, IfErr, IfOk, OnOk};
 ghost use Rattle.hlc_stamp.specs.declared.limits.TheConstants.{MAX_CAPACITY};
-ghost use Rattle.hlc_log_text.specs.ReadLog.{HasTooMany};
 ghost use Rattle.hlc_open_log.specs.Opened.{IsOpened};
 ghost use Rattle.hlc_open_log.specs.Unopened.{ExplainsOpenFault};
 ghost use Rattle.hlc_command_fault.specs.Fault.{IsOfAnswer, IsOfInput};
-ghost use Rattle.hlc_log_commands.specs.Records.{records_in};
+ghost use Rattle.hlc_log_commands.specs.Records.{IsLengthTold, records_in};
 ghost use Rattle.hlc_log_commands.specs.Unopened.{IsUnopened};
 
 use hlc_command_fault::CommandFault;
 use hlc_csv::RecordsFault;
 use hlc_json_lines::{JsonRules, LogInput};
-use hlc_log_text::LogRules;
+use hlc_log_text::{LogRules, NameKey};
 use hlc_open_log::{OpenFault, OpenLog, open_log, tell_bad};
 use std::alloc::Global;
 use std::io::{Read, Write};
@@ -24,13 +23,14 @@ fn open_records<I: Read + Drop>(
     rules: LogRules,
     json: Option<JsonRules>,
     most: u32,
+    key: NameKey,
 ) -> Result<OpenLog, OpenFault>
     requires { most ≤ MAX_CAPACITY }
     ensures opened { IfOk result (IsOpened rules most (records_in json (I.remaining reader))) }
     ensures fault { IfErr result (ExplainsOpenFault rules most (records_in json (I.remaining reader))) }
 {
     match LogInput::new(alloc, reader, json) {
-        Ok(input) => open_log(alloc, input, rules, most),
+        Ok(input) => open_log(alloc, input, rules, most, key),
         Err(_) => Err(OpenFault::Memory),
     }
 }
@@ -43,6 +43,7 @@ pub(crate) fn open_or_tell<I: Read + Drop, O: Write>(
     rules: LogRules,
     json: Option<JsonRules>,
     most: u32,
+    key: NameKey,
 ) -> Result<OpenLog, CommandFault>
     requires { most ≤ MAX_CAPACITY }
     ensures opened { IfOk result (IsOpened rules most (records_in json (I.remaining reader))) }
@@ -50,17 +51,16 @@ pub(crate) fn open_or_tell<I: Read + Drop, O: Write>(
     ensures told { IfErr result (λ fault. IsOfAnswer fault → IsUnopened most fault rules
         (records_in json (I.remaining reader)) (O.contents writer.old) (O.contents writer.new)) }
     ensures unread { IfErr result (λ fault. IsOfInput fault → writer.new ≡ writer.old) }
-    ensures too_long { IsErrOf result (CommandFault.Records RecordsFault.TooLong)
-        → HasTooMany rules most (records_in json (I.remaining reader)) }
+    ensures too_long { IfErr result (IsLengthTold most rules (records_in json (I.remaining reader))) }
 {
-    match open_records(alloc, reader, rules, json, most) {
+    match open_records(alloc, reader, rules, json, most, key) {
         Ok(log) => Ok(log),
         Err(OpenFault::Bad(bad)) => {
-            tell_bad(alloc, bad, writer)?;
+            tell_bad(alloc, &bad, writer)?;
             Err(CommandFault::BadLog)
         }
         Err(OpenFault::Read) => Err(CommandFault::Records(RecordsFault::Read)),
-        Err(OpenFault::TooLong) => Err(CommandFault::Records(RecordsFault::TooLong)),
+        Err(OpenFault::TooLong) => Err(CommandFault::LogTooLong { most }),
         Err(OpenFault::Memory) => Err(CommandFault::Records(RecordsFault::Memory)),
     }
 }

@@ -1,4 +1,5 @@
 -- The audit of a history's own log.
+use Rattle.hlc_log_text.specs.declared.file_mark.FileMark.{FileMark}
 use Rattle.std.proofs.Common.{◌≡◌, ◌∙◌, Bool, false, true, cond, not, ℕ, zero, suc, ◌+◌, ◌<◌, inl, inr, List, [], ◌∷◌, ◌++◌, length, Option, None, append-nil, arith, refl, subst, sym, ap}
 use Rattle.std.specs.Prelude.{codes, count_by}
 use Rattle.std.proofs.lemmas.Bool.{cases_lt}
@@ -18,7 +19,6 @@ use Rattle.hlc_log.proofs.Agreement.{faults_leave_no_order}
 use Rattle.hlc_log.proofs.UnsentEvents.{nothing_taken}
 use Rattle.hlc_log_text.specs.declared.log_text.LogText.{LogText}
 use Rattle.hlc_log_text.specs.declared.question.LogQuestion.{LogQuestion}
-use Rattle.hlc_open_log.proofs.OpenedLogs.{no_memory}
 use Rattle.hlc_log_audit.specs.Audit.{IsTextAudited, IsTold, all_asked, counted_row, missing_rows, taken_rows, unread_row, unstamped_row}
 use Rattle.hlc_log_audit.specs.Laws.{IsCleanReport}
 use Rattle.hlc_log_audit.specs.Report.{IsReport}
@@ -35,6 +35,7 @@ use Rattle.hlc_log_audit.proofs.CleanReports.{least_stamps_are_sound, least_stam
 use Rattle.hlc_log_audit.proofs.SameAudits.{told_report}
 use Rattle.hlc_log_audit.specs.LeftOut.{left_out_rows}
 use Rattle.hlc_log_text.specs.declared.bad_log.BadLine.{BadLine}
+use Rattle.hlc_open_log.proofs.PartsOpened.{all_opened}
 use Rattle.hlc_history_log.specs.Laws.{IsClocked, IsLogRead}
 use Rattle.hlc_history_log.proofs.HistoryLogs.{IsHistoryLog}
 use Rattle.hlc_history_log.proofs.InOrder.{stamps_told}
@@ -62,10 +63,10 @@ with_no_rule event kind.Restart none = refl
 with_no_rule event kind.Outside none = absurd (cc none)
 
 -- so it is of events that tell their readings and their stamps and have no rule of their own
-none_missing : (events : List LogEvent) → ((e : ℕ) → e < length events → own_rule Tick (event_at events e) ≡ None)
+none_missing : (files : List FileMark) (events : List LogEvent) → ((e : ℕ) → e < length events → own_rule Tick (event_at events e) ≡ None)
     → ((e : ℕ) → e < length events → (event_at events e).has_reading ≡ true)
-    → ((e : ℕ) → e < length events → (event_at events e).has_stamp ≡ true) → missing_rows events None ≡ []
-none_missing events ruled read stamped =
+    → ((e : ℕ) → e < length events → (event_at events e).has_stamp ≡ true) → missing_rows files events None ≡ []
+none_missing files events ruled read stamped =
     ap (λ (rows : List Fields). rows ++ (unread_row events ++ (unstamped_row events ++ [])))
     (none_counted (codes "outside") (λ event. is_from_outside event.kind) events (λ e lt. with_no_rule (event_at events e) (event_at events e).kind (ruled e lt)))
     ∙ ap (λ (rows : List Fields). rows ++ (unstamped_row events ++ []))
@@ -105,8 +106,8 @@ module _ (h : History) (clocked : IsClocked h) (report : Bool) (text : LogText) 
   is_history : IsHistoryLog h.events text.log.events
   is_history = log_is_read h clocked text read
 
-  nothing_missing : missing_rows text.log.events None ≡ []
-  nothing_missing = none_missing text.log.events
+  nothing_missing : missing_rows text.files text.log.events None ≡ []
+  nothing_missing = none_missing text.files text.log.events
       (λ e lt. is_history.no_rule Tick e (let size = is_history.size in omega arith))
       (λ e lt. logs_tell_readings h text e clocked read lt)
       (λ e lt. logs_tell_stamps h text e clocked read lt)
@@ -120,8 +121,9 @@ module _ (h : History) (clocked : IsClocked h) (report : Bool) (text : LogText) 
       let is = told.is_opened in
       let in_order = is.ordered.in_order in
       let log = opened.log in
+      let all = all_opened rules.records.faults _ is.ordered.rest is.kept is.lines (λ first. cc first) is.ordered.part in
       let filled : AreFilled text.log.events log.events =
-      subst (λ (events : List LogEvent). AreFilled events log.events) (sym taken) is.ordered.filled in
+      subst (λ (events : List LogEvent). AreFilled events log.events) (all.0 ∙ sym taken) is.ordered.filled in
       let events : log.events ≡ text.log.events =
       all_told_filled text.log.events log.events (λ e lt. logs_tell_stamps h text e clocked read lt) filled in
       let told_each : (k : ℕ) → k < length log.order → stamp_told log k ≡ true =
@@ -132,15 +134,15 @@ module _ (h : History) (clocked : IsClocked h) (report : Bool) (text : LogText) 
       let none_skipped : opened.skipped ≡ None = is.skipped ∙ alone.2 in
       let none_asked : all_asked opened.questions [] ≡ [] = ap (λ (questions : List LogQuestion). all_asked questions []) (is.questions ∙ alone.1) in
       let whole = told_report opened rules (all_asked opened.questions []) told.rows none_asked told.told in
-      let is_report : IsReport opened.nodes log opened.full told.rows =
-      subst (IsReport opened.nodes log opened.full)
+      let is_report : IsReport opened.files opened.nodes log opened.full told.rows =
+      subst (IsReport opened.files opened.nodes log opened.full)
       (sym (
       whole.4
-      ∙ ap (λ (left_out : List BadLine). (((whole.0 ++ taken_rows opened.unsent opened.resent) ++ missing_rows log.events opened.skipped) ++ left_out_rows left_out) ++ whole.1)
-      (is.left_out ∙ alone.3)
-      ∙ ap (λ (rows : List Fields). rows ++ whole.1) (append-nil ((whole.0 ++ taken_rows opened.unsent opened.resent) ++ missing_rows log.events opened.skipped))
-      ∙ (λ i. ((whole.0 ++ taken_rows (is.ordered.taken i) (is.ordered.again i)) ++ missing_rows log.events opened.skipped) ++ whole.1)
-      ∙ ap (λ (missing : List Fields). ((whole.0 ++ []) ++ missing) ++ whole.1) ((λ i. missing_rows (events i) (none_skipped i)) ∙ nothing_missing)
+      ∙ ap (λ (left_out : List BadLine). (((whole.0 ++ taken_rows opened.unsent opened.resent) ++ missing_rows opened.files log.events opened.skipped) ++ left_out_rows opened.files left_out) ++ whole.1)
+      (is.left_out ∙ ap (λ (lines : List BadLine). text.left_out.items ++ lines) all.1 ∙ append-nil text.left_out.items ∙ alone.3)
+      ∙ ap (λ (rows : List Fields). rows ++ whole.1) (append-nil ((whole.0 ++ taken_rows opened.unsent opened.resent) ++ missing_rows opened.files log.events opened.skipped))
+      ∙ (λ i. ((whole.0 ++ taken_rows (is.ordered.taken i) (is.ordered.again i)) ++ missing_rows opened.files log.events opened.skipped) ++ whole.1)
+      ∙ ap (λ (missing : List Fields). ((whole.0 ++ []) ++ missing) ++ whole.1) ((λ i. missing_rows (is.files i) (events i) (none_skipped i)) ∙ nothing_missing)
       ∙ ap (λ (over : List Fields). ((whole.0 ++ []) ++ []) ++ over) whole.3
       ∙ append-nil ((whole.0 ++ []) ++ []) ∙ append-nil (whole.0 ++ []) ∙ append-nil whole.0
       )) whole.2 in
@@ -156,8 +158,9 @@ module _ (h : History) (clocked : IsClocked h) (report : Bool) (text : LogText) 
         one_each = ap (λ (all : List LogEvent). length all) events ∙ alone.0;
         all_told = all_counted (stamp_told log) (length log.order) told_each ∙ order_len log.events log.order in_order.causal;
         clean =
-            subst (λ (nodes : List (List ℕ)). IsCleanReport nodes log told.rows) is.nodes
-            (least_stamps_report_clean opened.nodes log opened.full told.rows in_order same right is_report);
+            subst (λ (nodes : List (List ℕ)). IsCleanReport text.files nodes log told.rows) is.nodes
+            (subst (λ (files : List FileMark). IsCleanReport files opened.nodes log told.rows) is.files
+            (least_stamps_report_clean opened.files opened.nodes log opened.full told.rows in_order same right is_report));
         written = told.written;
       }
 
@@ -166,7 +169,7 @@ module _ (h : History) (clocked : IsClocked h) (report : Bool) (text : LogText) 
       let order = logs_have_an_order h text clocked read in
       let log = order.0 in
       let is_fault = subst (λ (events : List LogEvent). IsFaultOf events none.fault) (sym (order.2 ∙ taken)) none.is_fault in
-      faults_leave_no_order log.events none.fault is_fault (no_memory none.fault bad.why none.reason) order.3.messages log.order order.3.causal
+      faults_leave_no_order log.events none.fault is_fault none.known order.3.messages log.order order.3.causal
 
   audited_sound : (before after : Option (List ℕ)) (result : Outcome) → IsTextAudited text (plain_rules report) [] before after result
       → IsFoundSound h before after result

@@ -18,7 +18,7 @@ pub fn answer_text(
     question: &LogQuestion,
 ) -> Result<Vec<u8>, OutputFault>
     ensures { IfOk result (λ text. (row : Fields)
-        × IsAnswer log.now.nodes log.now.labels log.now.log log.now.full (plain_asked question.now) row
+        × IsAnswer log.now.files log.now.nodes log.now.labels log.now.log log.now.full (plain_asked question.now) row
         × (text.items ≡ text_of_row row)) }
 {
     let mut text = Vec::new(alloc);

@@ -8,7 +8,7 @@ ghost use Rattle.hlc_log_text.specs.LogItem.{LogItem, events_in};
 ghost use Rattle.hlc_log_text.specs.LogRules.{exact_rules};
 ghost use Rattle.hlc_log_text.specs.ReadLog.{SayItems};
 
-use hlc_log_text::{LogRules, StampForm, read_log};
+use hlc_log_text::{LogRules, NameKey, StampForm, read_log};
 use hlc_stamp::MAX_CAPACITY;
 use std::alloc::Global;
 
@@ -17,6 +17,13 @@ pub fn count_events(alloc: Global, text: &[u8]) -> Option<u32>
     ensures { IfSome result (λ count. (records : List Fields) × (items : List LogItem) × AreAllOf (Some text.now) records
         × SayItems (exact_rules Pair) records items × (count ≡ length (events_in items))) }
 {
-    let read = read_log(alloc, text, LogRules::exact(StampForm::Pair), MAX_CAPACITY).ok()?;
+    let read = read_log(
+        alloc,
+        text,
+        LogRules::exact(StampForm::Pair),
+        MAX_CAPACITY,
+        NameKey::fixed(),
+    )
+    .ok()?;
     Some(read.log.len())
 }

@@ -14,6 +14,7 @@ mod log_vectors;
 mod ordered_messages;
 mod packed_fields;
 mod read_lines;
+mod watched_events;
 
 pub use answered_questions::answer_text;
 pub use audited_logs::audit_log;
@@ -26,3 +27,4 @@ pub use log_vectors::vectors_of;
 pub use ordered_messages::order_message;
 pub use packed_fields::stamp_of_field;
 pub use read_lines::records_of;
+pub use watched_events::watch_event;

@@ -39,7 +39,7 @@ use Rattle.hlc_verdict.specs.Trace.{claimed_stamps}
 use Rattle.hlc_verdict.specs.Verdict.{AreVerdicts, verdict_of}
 use Rattle.hlc_verdict.specs.VerdictLaws.{verdict_at}
 use Rattle.hlc_log_picture.specs.Judged.{event_finding_at}
-use Rattle.hlc_log_picture.specs.Laws.{AreClaimsSeen, FormsAreVerdicts, FormsTellWords, LegendTellsForms, LogsSendFirst, RingsAreCauses, TellsVerdict, VerdictsFit}
+use Rattle.hlc_log_picture.specs.Laws.{AreClaimsSeen, FormsAreVerdicts, FormsTellWords, LegendTellsForms, LogsHaveTheirNodes, LogsSendFirst, RingsAreCauses, TellsVerdict, VerdictsFit}
 use Rattle.hlc_log_picture.specs.Looks.{form_of, form_of_found}
 
 -- the word that a form stands for
@@ -157,3 +157,13 @@ logs_send_first drawn ordered f s exists send =
       record { exists = place_exists log.events log.order causal f f_lt; kind = from.1 },
     ) in
     needed_before log.events log.order causal s f place.0 f_lt (inr sends)
+
+pub logs_have_their_nodes : LogsHaveTheirNodes
+logs_have_their_nodes drawn ordered named f exists =
+    let log = drawn.log in
+    let causal = ordered.causal in
+    let size = length-skeleton_in log.events log.order causal in
+    let f_lt : f < length log.order = omega arith in
+    let of_node = ordered.of_nodes (place_at log.order f) no_event (place_exists log.events log.order causal f f_lt) in
+    subst (λ (e : SkeletonEvent). e.node < length drawn.nodes) (sym (skeleton_in_at log.events log.order causal f f_lt))
+    (subst (λ (n : ℕ). (event_at log.events (place_at log.order f)).node.0 < n) named of_node)

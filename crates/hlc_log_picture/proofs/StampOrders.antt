@@ -265,7 +265,7 @@ module _ (log : LogInOrder) (ticks : log.receives ≡ Tick) (ordered : IsInOrder
         subst (Contains (take k (places_of ids))) here (contained_before log.events (places_of ids) there.0 k first (omega arith))
 
     needs_event : (f e : ℕ) → Needs log.events f e → e < length log.events
-    needs_event f e (inl earlier) = let lt = earlier.earlier in let within = earlier.exists in omega arith
+    needs_event f e (inl earlier) = earlier.first_exists
     needs_event f e (inr (m, sends, receives)) = sends.exists
 
     pub sorted_is_causal : IsCausalOrder log.events (places_of ids)

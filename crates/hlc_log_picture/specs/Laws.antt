@@ -4,7 +4,7 @@ use Rattle.hlc_causality.specs.ClockEvents.{ticking}
 use Rattle.hlc_causes.specs.Causes.{RollsOverAhead}
 use Rattle.hlc_causes.specs.declared.answers.Finding.{Finding}
 use Rattle.hlc_causes.specs.declared.answers.Finding.TheVariants.{Judged}
-use Rattle.hlc_diagram.specs.Content.{SendsComeFirst}
+use Rattle.hlc_diagram.specs.Content.{NodesExist, SendsComeFirst}
 use Rattle.hlc_svg.specs.declared.look.Form.{Form}
 use Rattle.hlc_svg.specs.declared.look.Form.TheVariants.{Hexagon}
 use Rattle.hlc_causes.specs.Words.{finding_word}
@@ -65,3 +65,7 @@ NoDigitIsLost = (drawn : DrawnLog) (k : ℕ) → k < length drawn.log.events →
 -- in a log in order each send comes before its receives
 abbrev pub LogsSendFirst : Type 0
 LogsSendFirst = (drawn : DrawnLog) → IsInOrder drawn.log → SendsComeFirst (content_of drawn)
+
+-- and each event happens at a node that has a name
+abbrev pub LogsHaveTheirNodes : Type 0
+LogsHaveTheirNodes = (drawn : DrawnLog) → IsInOrder drawn.log → drawn.log.nodes ≡ length drawn.nodes → NodesExist (content_of drawn)

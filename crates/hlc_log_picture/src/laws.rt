@@ -1,6 +1,6 @@
 //! The laws of the pictures of logs, as contracts of functions that do nothing.
 
-ghost use Rattle.hlc_log_picture.specs.Laws.{FormsAreVerdicts, FormsTellWords, LegendTellsForms, LogsSendFirst, NoDigitIsLost, RingsAreCauses, VerdictsFit};
+ghost use Rattle.hlc_log_picture.specs.Laws.{FormsAreVerdicts, FormsTellWords, LegendTellsForms, LogsHaveTheirNodes, LogsSendFirst, NoDigitIsLost, RingsAreCauses, VerdictsFit};
 
 /// Where receives tick, the form of a dot tells the verdict: it is the form of the verdict of `hlc_verdict` on its stamp, by those that its
 /// event saw claimed, or, if the stamp is ahead and rolls over, a hexagon. These are the stamps that the log claims, if each message
@@ -27,7 +27,9 @@ pub fn no_digit_is_lost()
     ensures { NoDigitIsLost }
 {}
 
-/// In a log in order each send comes before its receives, which is all that the laws of diagrams ask for.
+/// In a log in order each send comes before its receives, and each event happens at a node that has a name, which is all that the laws of
+/// diagrams ask for.
 pub fn sends_come_first()
-    ensures { LogsSendFirst }
+    ensures first { LogsSendFirst }
+    ensures nodes { LogsHaveTheirNodes }
 {}

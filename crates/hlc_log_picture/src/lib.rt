@@ -16,7 +16,8 @@
 //! share stand in the headings, and the rows show the rest. These digits are those of the whole log even if only a part is drawn, so that
 //! two parts can be compared.
 //!
-//! Events have the numbers of the lines on which their records begin, as in the answers of an audit. It reads no log.
+//! Events are named by the lines on which their records begin, as in the answers of an audit: `NAME:LINE` in the titles of a log of several files, of
+//! which a dot shows the LINE. It reads no log.
 //!
 //! A first caller, proved in `hlc_log_examples`: the picture of a log.
 //!
@@ -41,6 +42,7 @@ mod event_finding;
 pub mod laws;
 mod look;
 mod pictured_log;
+mod places;
 mod shared_digits;
 mod stamp_order;
 

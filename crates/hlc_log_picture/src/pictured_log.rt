@@ -6,24 +6,27 @@ ghost use Rattle.hlc_log_picture.specs.Judged.{AreEventFindings};
 use crate::cells::{LEGEND, NAME_ROOM, cell_width, put_cell, put_fact, put_heading};
 use crate::event_finding::{EventFinding, findings};
 use crate::look::look_of;
+use crate::places::{put_location, shown_line};
 use crate::shared_digits::first_digits;
 use hlc_causes::Finding;
 use hlc_diagram::{FirstDigits, Look, Subject, View, put_label};
 use hlc_execution::Execution;
 use hlc_log_report::OrderedLog;
-use hlc_log_text::{Labels, Names, node_name};
+use hlc_log_text::{Files, Names, node_name};
 use hlc_open_log::OpenLog;
 use hlc_stamp::{EventId, NodeId};
 use std::alloc::{AllocError, Global};
 use std::marker::Model;
 
-/// What a diagram shows of a log: its events in the order of the log's, each with the line on which its record begins, the stamp that is
+/// What a diagram shows of a log: its events in the order of the log's, each with the line on which its record begins, counted in its file, the stamp that is
 /// claimed for it, what its clock read, what is found of the stamp, and its label.
 #[derive(Drop)]
 pub struct PicturedLog<'a> {
     log: &'a OrderedLog,
+    files: &'a Files,
     nodes: &'a Names,
-    labels: &'a Labels,
+    // It knows the labels.
+    opened: &'a OpenLog,
     // By position.
     findings: Vec<EventFinding>,
     // They stand in the headings.
@@ -35,10 +38,10 @@ impl<'a> Model for PicturedLog<'a> {
 
     ghost Value = { DrawnLog };
 
-    ghost view = { λ p. record { log = p.log.now; nodes = p.nodes.now; labels = p.labels.now; findings = p.findings.items } };
+    ghost view = { λ p. record { log = p.log.now; files = p.files.now; nodes = p.nodes.now; labels = p.opened.now.labels; findings = p.findings.items } };
 
     ghost invariant = { λ p. ArePictured
-        (record { log = p.log.now; nodes = p.nodes.now; labels = p.labels.now; findings = p.findings.items }) p.first };
+        (record { log = p.log.now; files = p.files.now; nodes = p.nodes.now; labels = p.opened.now.labels; findings = p.findings.items }) p.first };
 }
 
 impl<'a> PicturedLog<'a> {
@@ -47,6 +50,7 @@ impl<'a> PicturedLog<'a> {
     /// It takes 32 bytes for each event.
     pub fn new(alloc: Global, log: &'a OpenLog) -> Result<PicturedLog<'a>, AllocError>
         ensures log { IfOk result (λ drawn. drawn.log ≡ log.now.log) }
+        ensures files { IfOk result (λ drawn. drawn.files ≡ log.now.files) }
         ensures nodes { IfOk result (λ drawn. drawn.nodes ≡ log.now.nodes) }
         ensures labels { IfOk result (λ drawn. drawn.labels ≡ log.now.labels) }
         ensures judged { IfOk result (λ drawn. AreEventFindings log.now.log log.now.full drawn.findings) }
@@ -56,8 +60,9 @@ impl<'a> PicturedLog<'a> {
         let findings = findings(alloc, ordered, log.full())?;
         Ok(PicturedLog {
             log: ordered,
+            files: log.files(),
             nodes: log.nodes(),
-            labels: log.labels(),
+            opened: log,
             findings,
             first: first_digits(ordered),
         })
@@ -76,7 +81,7 @@ impl<'a> PicturedLog<'a> {
         requires { event.0 < length self.now.log.events }
         ensures { option_map (λ label. label.now) result ≡ label_of_row self.now event.0 }
     {
-        self.labels.get(self.log.place(event))
+        self.opened.label(self.log.place(event))
     }
 
     // What is found of the stamp that is claimed for an event, if one is.
@@ -101,12 +106,12 @@ impl<'a> PicturedLog<'a> {
     }
 
     /// The row of the event whose record begins on a line, if there is one. It goes over the rows.
-    pub fn row_on(&self, line: u32) -> Option<EventId>
+    pub fn row_on(&self, line: u64) -> Option<EventId>
         ensures found { IfSome result (λ row. IsRowOn self.now line row.0) }
         ensures none { IfNone result (HasNoRow self.now line) }
     {
         for row in 0..self.len() {
-            if self.line(EventId(row)) == line {
+            if u64::from(self.line(EventId(row))) == line {
                 return Some(EventId(row));
             }
         }
@@ -114,7 +119,7 @@ impl<'a> PicturedLog<'a> {
     }
 
     // The row that a line stands for.
-    fn row_or_end(&self, line: u32) -> EventId
+    fn row_or_end(&self, line: u64) -> EventId
         ensures { StandsFor self.now line result.0 }
     {
         match self.row_on(line) {
@@ -124,7 +129,7 @@ impl<'a> PicturedLog<'a> {
     }
 
     // The row that a line stands for, if it is named.
-    fn named(&self, line: Option<u32>) -> Option<EventId>
+    fn named(&self, line: Option<u64>) -> Option<EventId>
         ensures { NamesRow self.now line result }
     {
         match line {
@@ -136,7 +141,7 @@ impl<'a> PicturedLog<'a> {
     /// The view from the event of line `from`, or from the first row, to the event of line `to`, or of as many rows as are drawn at most.
     /// The chain of the event of line `explained` is marked, if one is named. A line without an event stands for the end of the log,
     /// where there is no event.
-    pub fn view(&self, from: Option<u32>, to: Option<u32>, explained: Option<u32>) -> View
+    pub fn view(&self, from: Option<u64>, to: Option<u64>, explained: Option<u64>) -> View
         ensures { IsViewBetween self.now from to explained result }
     {
         View::between(self.named(from), self.named(to), self.named(explained))
@@ -144,7 +149,7 @@ impl<'a> PicturedLog<'a> {
 
     /// So many rows about the event of a line, as even above and below it as the rows allow, with the chain of another one marked, if it
     /// is named.
-    pub fn view_around(&self, line: u32, rows: u32, explained: Option<u32>) -> View
+    pub fn view_around(&self, line: u64, rows: u32, explained: Option<u64>) -> View
         ensures { IsViewAround self.now line rows explained result }
     {
         View::around(
@@ -165,6 +170,10 @@ impl<'a> Subject for PicturedLog<'a> {
         self.log.execution()
     }
 
+    fn has_every_lane(&self) -> bool {
+        false
+    }
+
     #[tactic(auto, using(crate::proofs::Legends::legend_is))]
     fn put_legend(&self, text: &mut String) -> Result<(), AllocError> {
         text.push_str(LEGEND)
@@ -176,6 +185,14 @@ impl<'a> Subject for PicturedLog<'a> {
 
     fn number(&self, event: EventId) -> u32 {
         self.log.event(event).line
+    }
+
+    fn shown(&self, event: EventId) -> u32 {
+        shown_line(self.files, self.log.event(event).line)
+    }
+
+    fn put_event(&self, text: &mut String, event: EventId) -> Result<(), AllocError> {
+        put_location(text, self.files, self.log.event(event).line)
     }
 
     fn is_in_order(&self) -> bool {

@@ -15,6 +15,7 @@ use Rattle.hlc_log.specs.CausalOrder.{IsCausalOrder, Needs, place_at}
 use Rattle.hlc_log.specs.Events.{IsInRange, event_at, no_event, own_rule, rule_by, with_stamp}
 use Rattle.hlc_log.specs.Messages.{AreMessagesSound, Receives as ReceivesMessage, Sends}
 use Rattle.hlc_log.specs.OrderSkeleton.{position_of, rules_in, send_place, skeleton_in}
+use Rattle.hlc_log.specs.Standing.{StandsBefore, seq_at}
 use Rattle.hlc_log.specs.Unsent.{is_send}
 use Rattle.hlc_log.specs.declared.log_event.LogEvent.{LogEvent}
 use Rattle.hlc_log.specs.declared.log_event.LogKind.{LogKind}
@@ -86,6 +87,11 @@ in_range_filled event stamp h = by_test event.has_stamp refl
       told = h.told;
     }
 
+-- where each event has the same seq, events stand as they do
+pub same_stands : (events others : List LogEvent) (d e : ℕ) → ((k : ℕ) → seq_at events k ≡ seq_at others k) → StandsBefore events d e → StandsBefore others d e
+same_stands events others d e same (inl below) = let first = same d in let second = same e in inl (omega arith)
+same_stands events others d e same (inr level) = inr (sym (same d) ∙ level.0 ∙ same e, level.1)
+
 module _ (events filled : List LogEvent) (are : AreFilled events filled) where
   -- what doesn't look at stamps is the same at each place
   pub filled_keeps : {X : Type 0} (f : LogEvent → X) → ((event : LogEvent) (stamp : Pair) → f (with_stamp stamp event) ≡ f event)
@@ -105,6 +111,9 @@ module _ (events filled : List LogEvent) (are : AreFilled events filled) where
 
   pub filled_node : (e : ℕ) → (event_at filled e).node.0 ≡ (event_at events e).node.0
   filled_node = filled_keeps (λ event. event.node.0) (λ event stamp. refl)
+
+  pub filled_seq : (e : ℕ) → seq_at filled e ≡ seq_at events e
+  filled_seq = filled_keeps (λ event. event.seq) (λ event stamp. refl)
 
   pub filled_reading : (e : ℕ) → (event_at filled e).reading ≡ (event_at events e).reading
   filled_reading = filled_keeps (λ event. event.reading) (λ event stamp. refl)
@@ -163,8 +172,14 @@ module _ (events filled : List LogEvent) (are : AreFilled events filled) where
   filled_needs : (f e : ℕ) → Needs filled f e → Needs events f e
   filled_needs f e (inl earlier) =
       let size = are.one_each in
+      let first = earlier.first_exists in
       let exists = earlier.exists in
-      inl (record { earlier = earlier.earlier; exists = omega arith; same_node = sym (filled_node e) ∙ earlier.same_node ∙ filled_node f })
+      inl (record {
+        before = same_stands filled events e f filled_seq earlier.before;
+        first_exists = omega arith;
+        exists = omega arith;
+        same_node = sym (filled_node e) ∙ earlier.same_node ∙ filled_node f;
+      })
   filled_needs f e (inr (m, sends, receives)) = inr (m, filled_sends e m sends, filled_receives f m receives)
 
   pub filled_causal : (order : List ℕ) → IsCausalOrder events order → IsCausalOrder filled order

@@ -13,4 +13,5 @@ pub mod Rearranged
 pub mod ReorderedTraces
 pub mod SeenTraces
 pub mod SkewOrder
+pub mod Swaps
 pub mod SamePlaces

@@ -1,9 +1,9 @@
 -- Logs with the same events in different orders.
 use Rattle.std.proofs.Common.{◌≡◌, ◌∙◌, Bool, true, false, ℕ, ◌<◌, ◌&&◌, ◌==◌, inl, inr, List, length, Option, Some, None, arith, refl, subst, sym, ap}
-use Rattle.std.specs.Prelude.{All, count_by, nat_le, option_map, slice_index_or}
+use Rattle.std.specs.Prelude.{All, count_by, if◌then◌else◌, nat_le, nat_lt, option_map, slice_index_or}
 use Rattle.std.proofs.lemmas.List.{ext_get_or}
 use Rattle.std.proofs.lemmas.List.Elements.{All-get_or}
-use Rattle.std.proofs.lemmas.Bool.{cases_order, eq-eqb, eqb-true}
+use Rattle.std.proofs.lemmas.Bool.{eq-eqb, eqb-true}
 use Rattle.std.proofs.lemmas.List.Sums.{length-filter}
 use Rattle.hlc_stamp.specs.declared.id.EventId.{EventId}
 use Rattle.hlc_stamp.specs.Order.{Pair}
@@ -16,18 +16,21 @@ use Rattle.hlc_causes.specs.declared.answers.Finding.TheVariants.{Judged, Rolled
 use Rattle.hlc_log.specs.declared.log_event.LogEvent.{LogEvent}
 use Rattle.hlc_log.specs.CausalOrder.{IsEarlierOf, place_at}
 use Rattle.hlc_log.specs.Events.{IsInRange, event_at, no_event, own_rule, with_stamp}
+use Rattle.hlc_log.specs.Standing.{StandsBefore}
 use Rattle.hlc_log.specs.OrderSkeleton.{index_in, send_place}
 use Rattle.hlc_log.specs.Reordering.{IsReordering, KeepsLog}
 use Rattle.hlc_log.proofs.OrderSkeletons.{place_of_index, skeleton_in_at}
+use Rattle.hlc_log.proofs.StandingEvents.{not_before_itself, stands_either_way, stands_one_way}
 use Rattle.hlc_log.proofs.Reorderings.{send_returned}
 use Rattle.hlc_log_report.specs.Counts.{AreFindings, counts_of, is_ahead, is_behind, is_least, is_low, is_not_above, is_rolled_over}
 use Rattle.hlc_log_report.specs.InOrder.{AreFilled, IsInOrder, LogInOrder, event_in_order, filled_event, skeleton_of}
-use Rattle.hlc_log_report.specs.Laws.{CountsAgree, GivenStampsAgree, MessagesAgree, RearrangedLogsTellTheSame}
+use Rattle.hlc_log_report.specs.Laws.{CountsAgree, GivenStampsAgree, MessagesAgree, RearrangedLogsTellTheSame, UnitFactorsAgree}
 use Rattle.hlc_log_report.specs.Messages.{is_received, is_sent, kind_in, message_counts, receives_in}
 use Rattle.hlc_log_report.specs.Moved.{moved_finding}
 use Rattle.hlc_log_report.specs.Reordered.{IsRearranged, TellTheSame, moved_position}
+use Rattle.hlc_log_report.specs.UnitFactor.{are_scaled, is_unscaled, tells_both}
 use Rattle.hlc_log_report.proofs.EventsInOrder.{length-skeleton_of}
-use Rattle.hlc_log_report.proofs.Filled.{filled_by, filled_if_told, filled_itself, rule_filled}
+use Rattle.hlc_log_report.proofs.Filled.{filled_by, filled_if_told, filled_itself, filled_seq, rule_filled, same_stands}
 use Rattle.hlc_log_report.proofs.Found.{one_found}
 use Rattle.hlc_log_report.proofs.GivenStamps.{filled_twice}
 use Rattle.hlc_log_report.proofs.Ordering.{claimed_at, delivers_earlier, order_len}
@@ -45,7 +48,7 @@ module _ (events others : List LogEvent) (to : ℕ → ℕ) (there : (e : ℕ) �
       let stamp = (event_at others (to e)).stamp in
       ap f (same e lt) ∙ filled_by f event stamp event.has_stamp (blind event stamp)
 
-  keeps_log : All IsInRange events → ((d e : ℕ) → IsEarlierOf events d e → to d < to e) → KeepsLog events others to
+  keeps_log : All IsInRange events → ((d e : ℕ) → IsEarlierOf events d e → StandsBefore others (to d) (to e)) → KeepsLog events others to
   keeps_log ranges at_node = record {
     exists = there;
     reading = kept (λ x. x.reading) (λ event stamp. refl);
@@ -56,13 +59,12 @@ module _ (events others : List LogEvent) (to : ℕ → ℕ) (there : (e : ℕ) �
         ap (own_rule receives) (same e lt)
         ∙ rule_filled receives (event_at events e) (event_at others (to e)).stamp (All-get_or IsInRange events e no_event lt ranges).told;
     at_node = λ d e h.
-        let exists : e < length events = h.exists in
-        let earlier : d < e = h.earlier in
         record {
-          earlier = at_node d e h;
-          exists = there e exists;
+          before = at_node d e h;
+          first_exists = there d h.first_exists;
+          exists = there e h.exists;
           same_node =
-              kept (λ x. x.node.0) (λ event stamp. refl) d (omega arith) ∙ h.same_node ∙ sym (kept (λ x. x.node.0) (λ event stamp. refl) e exists);
+              kept (λ x. x.node.0) (λ event stamp. refl) d h.first_exists ∙ h.same_node ∙ sym (kept (λ x. x.node.0) (λ event stamp. refl) e h.exists);
         };
     sends = λ d e h. (
       h.0,
@@ -86,27 +88,23 @@ module _ (log other : LogInOrder) (to back : ℕ → ℕ) (h : IsRearranged log 
   node_back : (f : ℕ) → f < length other.events → (event_at log.events (back f)).node.0 ≡ (event_at other.events f).node.0
   node_back = kept other.events log.events back h.here same_back (λ x. x.node.0) (λ event stamp. refl)
 
-  earlier_back : (d e : ℕ) → IsEarlierOf other.events d e → back d < back e
+  earlier_back : (d e : ℕ) → IsEarlierOf other.events d e → StandsBefore log.events (back d) (back e)
   earlier_back d e is =
-      let e_lt : e < length other.events = is.exists in
-      let earlier : d < e = is.earlier in
-      let d_lt : d < length other.events = omega arith in
+      let d_lt = is.first_exists in
+      let e_lt = is.exists in
       let d_back = h.back_there d d_lt in
       let e_back = h.back_there e e_lt in
-      elim (cases_order (back d) (back e)) [
-        | inl same ↦ let both = ap to same in absurd (omega arith)
-        | inr differ ↦ elim differ [
-          | inl lt ↦ lt
-          | inr gt ↦
-              let turned : IsEarlierOf log.events (back e) (back d) = record {
-                earlier = gt;
-                exists = h.here d d_lt;
-                same_node =
-                    node_back e e_lt ∙ sym is.same_node ∙ sym (node_back d d_lt);
-              } in
-              let later = h.at_node (back e) (back d) turned in
-              absurd (omega arith)
-        ]
+      elim (stands_either_way log.events (back d) (back e) (λ same. not_before_itself other.events d e (sym d_back ∙ ap to same ∙ e_back) is.before)) [
+        | inl before ↦ before
+        | inr after ↦
+            let turned : IsEarlierOf log.events (back e) (back d) = record {
+              before = after;
+              first_exists = h.here e e_lt;
+              exists = h.here d d_lt;
+              same_node = node_back e e_lt ∙ sym is.same_node ∙ sym (node_back d d_lt);
+            } in
+            let later = subst (λ (x : ℕ). StandsBefore other.events x d) e_back (subst (StandsBefore other.events (to (back e))) d_back (h.at_node (back e) (back d) turned)) in
+            absurd (stands_one_way other.events d e is.before later)
       ]
 
   pub tell_the_same : TellTheSame log other to back
@@ -191,7 +189,7 @@ one_log log other receives ordered other_ordered same =
           let event = event_at log.events e in
           let here : event_at other.events e ≡ event = ap (λ (events : List LogEvent). event_at events e) same in
           here ∙ sym (ap (λ (x : LogEvent). filled_event event x.stamp) here ∙ filled_itself event);
-      at_node = λ d e earlier. earlier.earlier;
+      at_node = λ d e earlier. subst (λ (events : List LogEvent). StandsBefore events d e) (sym same) earlier.before;
     }
 
 -- two fillings of the same events
@@ -214,7 +212,8 @@ filled_logs events log other receives ordered other_ordered are others_are =
           let stamp = (event_at other.events e).stamp in
           others_are.each e within
           ∙ sym (ap (λ (x : LogEvent). filled_event x stamp) (are.each e within) ∙ filled_twice (event_at events e) (event_at log.events e).stamp stamp);
-      at_node = λ d e earlier. earlier.earlier;
+      at_node = λ d e earlier. same_stands log.events other.events d e
+          (λ k. filled_seq events log.events are k ∙ sym (filled_seq events other.events others_are k)) earlier.before;
     }
 
 pub given_stamps_agree : GivenStampsAgree
@@ -365,3 +364,24 @@ module _ (log other : LogInOrder) (to back : ℕ → ℕ) (h : IsRearranged log 
 
 pub messages_agree : MessagesAgree
 messages_agree log other to back h = same_messages log other to back h
+
+-- units
+module _ (log other : LogInOrder) (to back : ℕ → ℕ) (h : IsRearranged log other to back) where
+  same_count : (test : LogEvent → Bool) → count_by test other.events ≡ count_by test log.events
+  same_count test =
+      let size = h.size in
+      count_list_moved test no_event (length log.events) to back (λ e lt. let there = h.there e lt in omega arith) h.back_here log.events other.events refl size
+      (λ e lt. ap test (event_same log other to back h e lt))
+
+  same_scaled : (factor : ℕ) → are_scaled factor other.events ≡ are_scaled factor log.events
+  same_scaled factor =
+      let told = same_count tells_both in
+      let unscaled = same_count (is_unscaled factor) in
+      λ i. nat_lt 0 (told i) && (unscaled i == 0)
+
+pub unit_factors_agree : UnitFactorsAgree
+unit_factors_agree log other to back h =
+    let thousand = same_scaled log other to back h 1000 in
+    let million = same_scaled log other to back h 1000000 in
+    let billion = same_scaled log other to back h 1000000000 in
+    λ i. if thousand i then Some 1000 else if million i then Some 1000000 else if billion i then Some 1000000000 else None

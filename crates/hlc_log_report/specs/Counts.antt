@@ -1,5 +1,5 @@
 -- How many of the stamps that a log tells have each verdict.
-use Rattle.std.specs.Prelude.{◌≡◌, ℕ, ◌+◌, ◌<◌, ◌^◌, Bool, true, false, Option, Some, None, List, length, count_by, slice_index_or}
+use Rattle.std.specs.Prelude.{◌≡◌, ◌==◌, ◌&&◌, ℕ, ◌+◌, ◌<◌, ◌^◌, Bool, true, false, Option, Some, None, List, length, count_by, nat_lt, slice_index_or}
 use Rattle.hlc_causality.specs.Places.{places_below}
 use Rattle.hlc_verdict.specs.declared.verdict.Verdict.TheVariants as verdict
 use Rattle.hlc_causes.specs.declared.answers.Finding.{Finding}
@@ -52,6 +52,11 @@ pub record AreFindings (log : LogInOrder) (full n : ℕ) (findings : List (Optio
 -- the counts are those of what is found of all events
 abbrev pub AreCounted : LogInOrder → ℕ → Counts → Type 0
 AreCounted log full counts = (findings : List (Option Finding)) × AreFindings log full (length log.order) findings × (counts ≡ counts_of findings)
+
+-- whether all stamps that the log tells are ahead, and there is one
+abbrev pub are_all_ahead : Counts → Bool
+are_all_ahead counts =
+    nat_lt 0 counts.ahead && (counts.behind == 0) && (counts.not_above == 0) && (counts.low == 0) && (counts.least == 0) && (counts.rolled_over == 0)
 
 -- how many stamps the log tells
 abbrev pub told_count : LogInOrder → ℕ

@@ -11,12 +11,13 @@ use Rattle.hlc_causes.specs.declared.answers.Finding.{Finding}
 use Rattle.hlc_log.specs.declared.log_event.LogEvent.{LogEvent}
 use Rattle.hlc_log.specs.Reordering.{IsReordering, IsSameNode}
 use Rattle.hlc_log_report.specs.Counts.{AreCounted}
-use Rattle.hlc_log_report.specs.Found.{FindsAt, IsCauseAt, NamesCausesIn}
+use Rattle.hlc_log_report.specs.Found.{FindsAt, IsCauseAt, NamesCausesIn, is_swapped_in}
 use Rattle.hlc_log_report.specs.InOrder.{AreFilled, IsCarriedRightly, IsInOrder, LogInOrder, claimed_of, clocks_of, seen_of, stamp_told, wrong_of}
 use Rattle.hlc_log_report.specs.Messages.{message_counts}
 use Rattle.hlc_log_report.specs.Moved.{moved_causes, moved_finding, moved_skew, moved_verdict}
 use Rattle.hlc_log_report.specs.Reordered.{IsRearranged, IsReorderedTrace, TellTheSame, moved_position}
 use Rattle.hlc_log_report.specs.Skew.{NamesSkewBefore}
+use Rattle.hlc_log_report.specs.UnitFactor.{unit_factor}
 use Rattle.hlc_log_report.specs.declared.counts.Counts.{Counts}
 use Rattle.hlc_log_report.specs.declared.skew.Skew.{Skew}
 
@@ -67,6 +68,10 @@ CountsAgree = (log other : LogInOrder) (to back : ℕ → ℕ) → IsRearranged 
 abbrev pub MessagesAgree : Type 0
 MessagesAgree = (log other : LogInOrder) (to back : ℕ → ℕ) → IsRearranged log other to back → message_counts other ≡ message_counts log
 
+-- and their readings look as if they had the same unit
+abbrev pub UnitFactorsAgree : Type 0
+UnitFactorsAgree = (log other : LogInOrder) (to back : ℕ → ℕ) → IsRearranged log other to back → unit_factor other.events ≡ unit_factor log.events
+
 -- of each event of logs that tell the same, the same is found
 abbrev pub FindingsAgree : Type 0
 FindingsAgree = (log other : LogInOrder) (to back : ℕ → ℕ) → TellTheSame log other to back → (full k : ℕ) (found : Option Finding) →
@@ -78,6 +83,11 @@ abbrev pub CausesAgree : Type 0
 CausesAgree = (log other : LogInOrder) (to back : ℕ → ℕ) → TellTheSame log other to back → (full k : ℕ) (answer : Causes) →
     k < length log.order → NamesCausesIn log full k answer →
     let moved = moved_position log other to in NamesCausesIn other full (moved k) (moved_causes moved answer)
+
+-- and the same events stand swapped with those before them
+abbrev pub SwapsAgree : Type 0
+SwapsAgree = (log other : LogInOrder) (to back : ℕ → ℕ) → TellTheSame log other to back → (full k : ℕ) → k < length log.order →
+    is_swapped_in other full (moved_position log other to k) ≡ is_swapped_in log full k
 
 -- and what messages carried wrongly they did in both
 abbrev pub WrongAgrees : Type 0

@@ -7,5 +7,6 @@ pub mod Moved
 pub mod Reordered
 pub mod Skew
 pub mod Outside
+pub mod UnitFactor
 pub mod Unread
 pub mod Unstamped

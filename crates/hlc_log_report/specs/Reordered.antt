@@ -6,6 +6,7 @@ use Rattle.hlc_log.specs.CausalOrder.{IsEarlierOf, place_at}
 use Rattle.hlc_log.specs.Events.{event_at}
 use Rattle.hlc_log.specs.declared.log_event.LogEvent.{LogEvent}
 use Rattle.hlc_log.specs.OrderSkeleton.{index_in}
+use Rattle.hlc_log.specs.Standing.{StandsBefore}
 use Rattle.hlc_log.specs.Reordering.{HaveEqualPairs, IsClockReordering, IsReorderedLog}
 use Rattle.hlc_log_report.specs.InOrder.{IsInOrder, LogInOrder, filled_event}
 
@@ -45,4 +46,4 @@ pub record IsRearranged (log other : LogInOrder) (to back : ℕ → ℕ) : Type 
   pub back_there : (f : ℕ) → f < length other.events → to (back f) ≡ f
   pub same : (e : ℕ) → e < length log.events →
       event_at other.events (to e) ≡ filled_event (event_at log.events e) (event_at other.events (to e)).stamp
-  pub at_node : (d e : ℕ) → IsEarlierOf log.events d e → to d < to e
+  pub at_node : (d e : ℕ) → IsEarlierOf log.events d e → StandsBefore other.events (to d) (to e)

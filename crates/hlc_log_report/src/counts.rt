@@ -1,5 +1,5 @@
 ghost use Rattle.std.specs.Prelude.{◌≡◌};
-ghost use Rattle.hlc_log_report.specs.Counts.{AreCounted, CanCountFinding, no_findings, with_finding};
+ghost use Rattle.hlc_log_report.specs.Counts.{AreCounted, CanCountFinding, are_all_ahead, no_findings, with_finding};
 
 use crate::ordered_log::OrderedLog;
 use hlc_causes::Finding;
@@ -36,6 +36,18 @@ impl Counts {
             ahead: 0,
             rolled_over: 0,
         }
+    }
+
+    /// Whether all stamps that the log tells are ahead, and there is one.
+    pub fn are_all_ahead(self) -> bool
+        ensures { result ≡ are_all_ahead self }
+    {
+        self.ahead > 0
+            && self.behind == 0
+            && self.not_above == 0
+            && self.low == 0
+            && self.least == 0
+            && self.rolled_over == 0
     }
 
     // Counts one finding more, if there is one.

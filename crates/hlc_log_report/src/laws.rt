@@ -4,7 +4,7 @@
 //! A log in another order has the same events at each node in the same order, delivers the same sends, and claims the same stamps where
 //! it tells stamps. The others are given alike.
 
-ghost use Rattle.hlc_log_report.specs.Laws.{CausesAgree, CountsAgree, FindingsAgree, GivenStampsAgree, LogsAreReorderedTraces, MessagesAgree, NoCausesAreLeast, RearrangedLogsTellTheSame, ReorderingKeepsCauses, ReorderingKeepsFindings, ReorderingKeepsSkews, ReorderingKeepsVerdicts, WrongAgrees};
+ghost use Rattle.hlc_log_report.specs.Laws.{CausesAgree, CountsAgree, FindingsAgree, GivenStampsAgree, LogsAreReorderedTraces, MessagesAgree, NoCausesAreLeast, RearrangedLogsTellTheSame, ReorderingKeepsCauses, ReorderingKeepsFindings, ReorderingKeepsSkews, ReorderingKeepsVerdicts, SwapsAgree, UnitFactorsAgree, WrongAgrees};
 
 /// The verdict on an event, what is found of it, and how it breaks the clock rule don't depend on the order in which events are
 /// listed. An answer that names another event names the same one.
@@ -20,20 +20,22 @@ pub fn reordering_keeps_skews()
 {}
 
 /// Two logs that tell the same are such reorderings of one another, in whichever causal orders. So of each event the same is
-/// found, the same events are causes, and the same messages carried another stamp than their sends.
+/// found, the same events are causes, the same stand swapped, and the same messages carried another stamp than their sends.
 pub fn logs_in_order_agree()
     ensures reordered { LogsAreReorderedTraces }
     ensures findings { FindingsAgree }
     ensures causes { CausesAgree }
+    ensures swaps { SwapsAgree }
     ensures wrong { WrongAgrees }
 {}
 
-/// So do two logs with the same events, each with its line, in different orders. They have as many stamps with each verdict, and as
-/// many messages of each kind.
+/// So do two logs with the same events, each with its line, in different orders. They have as many stamps with each verdict, as
+/// many messages of each kind, and the same factor between units, if there is one.
 pub fn rearranged_logs_agree()
     ensures same { RearrangedLogsTellTheSame }
     ensures counts { CountsAgree }
     ensures messages { MessagesAgree }
+    ensures units { UnitFactorsAgree }
 {}
 
 /// The stamps that events without one are given don't depend on the order: however the same events are put in order, they have the

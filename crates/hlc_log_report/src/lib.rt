@@ -11,10 +11,11 @@
 //! - `skews_of` says of each two nodes how far the clock of one is ahead of the other's, as messages show it: a `Skew` each, by its `SkewNodes`.
 //! - `count_missing` says of how many events something isn't in the log: their send, what their clock read, or the stamp of a receive:
 //!   `MissingCounts`. Without a reading an event shows no skew; without a stamp it is no cause, and has no verdict.
+//! - `unit_factor` says whether readings look as if they had another unit than `l`.
 //! - `laws` says that verdicts, causes, skews and the stamps that are given don't depend on the order in which the log tells of its events,
 //!   and that a log where nothing is wrong claims the least stamps.
 //!
-//! All but `OrderedLog::new` go over the events once, and only it, `reorder` and `skews_of` take memory.
+//! All but `OrderedLog::new` and `unit_factor` go over the events once, and only `OrderedLog::new`, `reorder` and `skews_of` take memory.
 //!
 //! It reads no text, and knows nodes and messages by number alone: their names are with `hlc_log_text`. It looks for no causes, and
 //! it doesn't say how long a message took: a skew is the difference of two readings, and a message's time hides as much of it.
@@ -47,6 +48,7 @@ mod reordering;
 mod skew;
 mod skew_nodes;
 mod skews;
+mod units;
 
 pub use counts::{Counts, count_findings};
 pub use messages::{MessageCounts, count_messages};
@@ -55,3 +57,4 @@ pub use ordered_log::OrderedLog;
 pub use skew::Skew;
 pub use skew_nodes::SkewNodes;
 pub use skews::skews_of;
+pub use units::unit_factor;

@@ -3,19 +3,20 @@ ghost use Rattle.hlc_stamp.specs.Ids.{places_of};
 ghost use Rattle.std.specs.Option.{ForSome};
 ghost use Rattle.hlc_causality.specs.ClockEvents.{clock_skeleton};
 ghost use Rattle.hlc_causality.specs.Neighbours.{place_of};
-ghost use Rattle.hlc_causality.specs.Predecessors.{send_of};
+ghost use Rattle.hlc_causality.specs.Predecessors.{previous_of, send_of};
+ghost use Rattle.hlc_causes.specs.Swapped.{keeps_after, stand_swapped};
 ghost use Rattle.hlc_execution.specs.Execution.{HasLeastClockStamps, clock_of};
 ghost use Rattle.hlc_log.specs.CausalOrder.{IsCausalOrder, place_at};
 ghost use Rattle.hlc_log.specs.Events.{IsInRange, IsNumbered, event_at};
 ghost use Rattle.hlc_log.specs.Messages.{AreMessagesSound};
-ghost use Rattle.hlc_log_report.specs.Found.{FindsAt, NamesCausesIn};
+ghost use Rattle.hlc_log_report.specs.Found.{FindsAt, NamesCausesIn, is_swapped_in};
 ghost use Rattle.hlc_log_report.specs.InOrder.{AreFilled, AreOfNodes, ArePositions, EachDiffers, EachExists, IsInOrder, carried_of, claimed_of, clocks_of, event_in_order, reading_told, seen_of, skeleton_of, stamp_told, wrong_of};
 
 use crate::giving::give_stamps;
 use crate::in_order::execution_in;
 use crate::reordering::reordered_execution;
 use hlc_causality::Receives;
-use hlc_causes::{Causes, Claims, Finding, Seen, causes_at, finding};
+use hlc_causes::{Causes, Claims, Finding, Seen, causes_at, finding, keeps_after};
 use hlc_execution::Execution;
 use hlc_log::{Log, LogEvent, MAX_LOG_NODES};
 use hlc_stamp::{EventId, MAX_CAPACITY, Stamp};
@@ -243,6 +244,56 @@ impl OrderedLog {
         } else {
             Causes::none()
         }
+    }
+
+    /// Whether the event at a position and its node's event before it stand swapped: the log tells the stamps of both, and each would keep
+    /// the clock rule in the place of the other, by the stamps that it saw claimed.
+    ///
+    /// `full` is the greatest `c` that the form of the stamps can write. It takes constant time and no memory.
+    pub fn is_swapped(&self, position: EventId, full: u32) -> bool
+        requires { position.0 < length self.now.events }
+        ensures { result ≡ is_swapped_in self.now full position.0 }
+    {
+        let Some(previous) = self.previous(position) else {
+            return false;
+        };
+        self.has_stamp(position)
+            && self.has_stamp(previous)
+            && self.stand_swapped(position, previous, full)
+    }
+
+    // Where the event of the same node stands before the one at a position.
+    fn previous(&self, position: EventId) -> Option<EventId>
+        requires { position.0 < length self.now.events }
+        ensures value { place_of result ≡ previous_of (clock_skeleton (clocks_of self.now)) position.0 }
+        ensures exists { ForSome result (λ d. d.0 < length self.now.events) }
+    {
+        self.execution.previous(position)
+    }
+
+    // Whether the event at a position and this one, its node's event before it, stand swapped.
+    fn stand_swapped(&self, position: EventId, previous: EventId, full: u32) -> bool
+        requires exists { position.0 < length self.now.events }
+        requires previous { previous.0 < length self.now.events }
+        ensures { result ≡ stand_swapped (clocks_of self.now) (seen_of self.now) full position.0 previous.0 }
+    {
+        self.keeps_after(position, self.previous(previous), full)
+            && self.keeps_after(previous, Some(position), full)
+    }
+
+    // Whether the event at a position would keep the clock rule, if this one were the previous event of its node.
+    fn keeps_after(&self, position: EventId, previous: Option<EventId>, full: u32) -> bool
+        requires exists { position.0 < length self.now.events }
+        requires previous { ForSome previous (λ d. d.0 < length self.now.events) }
+        ensures { result ≡ keeps_after (clocks_of self.now) (seen_of self.now position.0) full position.0 (place_of previous) }
+    {
+        keeps_after(
+            &self.execution,
+            &self.seen(position),
+            position,
+            previous,
+            full,
+        )
     }
 
     /// Where the event at a place of the log stands in the order.

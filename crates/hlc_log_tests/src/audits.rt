@@ -6,7 +6,7 @@ ghost use Rattle.hlc_stamp.specs.declared.limits.TheConstants.{MAX_CAPACITY};
 use crate::slow::Slow;
 use hlc_causality::Receives;
 use hlc_log_audit::{AuditRules, Audited, Outcome, RecordsFault, audit_run, audit_up_to};
-use hlc_log_text::{FaultRule, LogRules, RecordSyntax, StampForm};
+use hlc_log_text::{FaultRule, LogRules, NameKey, RecordSyntax, StampForm};
 use std::alloc::Global;
 use std::io::{self, ErrorKind, Write};
 use std::process::Abort;
@@ -135,7 +135,7 @@ pub(crate) fn expect_report(
     outcome: Outcome,
 ) {
     let mut out = Vec::new(alloc);
-    let found = audit_run(alloc, log, &mut out, rules, &[]);
+    let found = audit_run(alloc, log, &mut out, rules, &[], NameKey::fixed());
     expect_audited(rt, &out, rows, found, Ok(outcome));
 }
 
@@ -166,7 +166,15 @@ fn expect_message(
     requires { most ≤ MAX_CAPACITY }
 {
     let mut out = Vec::new(alloc);
-    let found = audit_up_to(alloc, MESSAGE.as_bytes(), &mut out, PAIRS, &[], most);
+    let found = audit_up_to(
+        alloc,
+        MESSAGE.as_bytes(),
+        &mut out,
+        PAIRS,
+        &[],
+        most,
+        NameKey::fixed(),
+    );
     expect_audited(rt, &out, rows, found, audited);
 }
 
@@ -178,7 +186,14 @@ fn a_record_is_too_many(rt: HostRuntime) {
 
 fn expect_no_rows(rt: &impl Abort, alloc: Global, bytes: &[u8]) {
     let mut out = Vec::new(alloc);
-    let audited = audit_run(alloc, Slow { bytes, fails: true }, &mut out, PAIRS, &[]);
+    let audited = audit_run(
+        alloc,
+        Slow { bytes, fails: true },
+        &mut out,
+        PAIRS,
+        &[],
+        NameKey::fixed(),
+    );
     expect_audited(rt, &out, "", audited, Err(RecordsFault::Read));
 }
 
@@ -216,7 +231,14 @@ impl Write for Narrow {
 fn tells_that_the_writer_failed(rt: HostRuntime) {
     for left in 0..MESSAGE_ROWS.len() {
         let mut out = Narrow { left };
-        let audited = audit_run(rt.alloc(), MESSAGE.as_bytes(), &mut out, PAIRS, &[]);
+        let audited = audit_run(
+            rt.alloc(),
+            MESSAGE.as_bytes(),
+            &mut out,
+            PAIRS,
+            &[],
+            NameKey::fixed(),
+        );
         assert!(rt; audited == Err(RecordsFault::Write), "{left}");
     }
 }

@@ -55,7 +55,7 @@ static BAD_LOGS: [(&str, &str); 45] = [
     ),
     (
         "kind,node,reading,l,c,message,carried_l,carried_c\nreceive,a,1,1,0,m,,\n",
-        "bad,2,unsent\n",
+        "bad,2,unsent,m\n",
     ),
     (
         "kind,node,reading,l,c,message,carried_l,carried_c\nreceive,,1,1,0,m,1,x\n",
@@ -72,7 +72,7 @@ static BAD_LOGS: [(&str, &str); 45] = [
     // Half a stamp of a receive, none of another event, and a receive without a stamp of a message that isn't sent.
     ("receive,b,5,,0,m\n", "bad,1,number,l\n"),
     ("local,a,10,,\n", "bad,1,number,l\n"),
-    ("receive,b,5,,,m\n", "bad,1,unsent\n"),
+    ("receive,b,5,,,m\n", "bad,1,unsent,m\n"),
     // A receive that names the sender, and doesn't tell what its message carried; one that names nothing; and a send without a message, under a
     // header that has no senders.
     (
@@ -100,11 +100,11 @@ static BAD_LOGS: [(&str, &str); 45] = [
     ),
     ("local,a,1,1,0\nlocal,b,2,2,0,\"x\n", "bad,2,quote\n"),
     // Faults of the log: a message that is sent twice comes first, then one that isn't sent, then receives that wait.
-    ("send,a,1,1,0,m\n\nsend,b,2,2,0,m\n", "bad,3,sent-twice\n"),
-    ("local,a,1,1,0\nreceive,a,2,2,0,m\n", "bad,2,unsent\n"),
+    ("send,a,1,1,0,m\n\nsend,b,2,2,0,m\n", "bad,3,sent-twice,m\n"),
+    ("local,a,1,1,0\nreceive,a,2,2,0,m\n", "bad,2,unsent,m\n"),
     (
         "receive,a,1,1,0,n\nsend,a,2,2,0,m\nsend,a,3,3,0,m\n",
-        "bad,3,sent-twice\n",
+        "bad,3,sent-twice,m\n",
     ),
     ("receive,a,1,1,0,m\nsend,a,2,2,0,m\n", "bad,1,cycle\n"),
     (
@@ -113,7 +113,7 @@ static BAD_LOGS: [(&str, &str); 45] = [
     ),
     (
         "receive,a,1,1,0,m\nsend,a,2,2,0,m\nreceive,b,1,1,0,n\n",
-        "bad,3,unsent\n",
+        "bad,3,unsent,n\n",
     ),
     // Faults of the text come before those of the log.
     ("send,a,1,1,0,m\nsend,a,2,2,0,m\nfrob\n", "bad,3,word\n"),
@@ -131,7 +131,7 @@ fn bad_logs_have_one_row(rt: HostRuntime) {
 }
 
 // Logs with bad records, and what is told of them once these are left out.
-static LENIENT: [(&str, &str, Outcome); 4] = [
+static LENIENT: [(&str, &str, Outcome); 7] = [
     // One for each word, and a second one for some; a line in a question, and a name in one.
     (
         "frob\nlocal,a,10,10,0\nlocal,a,x,1,0\nlocal,a\n\nsend,a,11,11,0,\nlocal,,1,1,0\nexplain,x\nlocal,a,12,12,0\nfrob,b\ndrift,\n",
@@ -142,8 +142,26 @@ static LENIENT: [(&str, &str, Outcome); 4] = [
     // A send that is bad sends nothing.
     (
         "send,a,10,10,x,m\nreceive,b,5,10,1,m\n",
-        "bad,2,unsent\n",
+        "bad,2,unsent,m\n",
         Outcome::BadLog,
+    ),
+    // A second send of a message, also by another node, isn't there, nor is its node; one that is bad besides is told of that.
+    (
+        "receive,b,10,10,1,m\nsend,a,10,10,0,m\nsend,a,11,11,0,m\nsend,c,12,12,0,m\nsend,a,0,12,0,m\n",
+        "count,least,2\nnode,b,1,0,1,2\nnode,a,1,0,2,2\nmessages,1,1,0,0\nskew,a,b,0,2,1\nleft-out,number,1,5\nleft-out,sent-twice,2,3\n",
+        Outcome::Sound,
+    ),
+    // Receives that wait for one another, and what comes after one of them, on any node.
+    (
+        "local,b,1,1,0\nreceive,a,2,2,0,n\nsend,a,3,3,0,m\nreceive,b,2,2,0,m\nsend,b,3,3,0,n\nlocal,c,4,4,0\nfrob\nreceive,c,5,5,0,n\n",
+        "count,least,2\nnode,b,1,0,1,1\nnode,a,0,none\nnode,c,1,0,6,6\nmessages,0,0,0,0\nleft-out,word,1,7\nleft-out,cycle,5,2\n",
+        Outcome::Sound,
+    ),
+    // By seq, what comes after the receive is the send that it waits for, and the first record isn't.
+    (
+        "kind,node,reading,l,c,message,seq\nlocal,a,9,9,0,,2\nsend,a,12,12,0,m,4\nreceive,a,11,11,0,m,3\n",
+        "count,least,1\nnode,a,1,0,2,2\nmessages,0,0,0,0\nleft-out,cycle,2,3\n",
+        Outcome::Sound,
     ),
     // A header that lacks a column, and a quotation mark that nothing closes, leave nothing to read.
     ("kind,node\nfrob\n", "bad,1,header\n", Outcome::BadLog),
@@ -160,6 +178,46 @@ fn bad_records_may_be_left_out(rt: HostRuntime) {
     rules.records.faults = FaultRule::LeaveOut;
     for (log, rows, outcome) in &LENIENT {
         expect_report(&rt, rt.alloc(), log.as_bytes(), rules, rows, *outcome);
+    }
+}
+
+// Each bad record is told, up to one after which nothing can be read; or else each message that is sent again or isn't sent.
+static ALL_FAULTS: [(&str, &str); 5] = [
+    (
+        "frob\nlocal,a,1,1,0\nlocal,a,0,1,0\nsend,a,2,2,0,\n",
+        "bad,1,word\nbad,3,number,reading\nbad,4,name,message\n",
+    ),
+    (
+        "frob\nreceive,a,1,1,0,m\n==> b.log <==\nlocal\n",
+        "bad,1,word\nbad,b.log:1,fields\n",
+    ),
+    (
+        "frob\nlocal,a,1,1,0,\"x\nlocal,a,2,2,0\n",
+        "bad,1,word\nbad,2,quote\n",
+    ),
+    (
+        "receive,a,1,1,0,n\nsend,a,2,2,0,m\nsend,a,3,3,0,m\nreceive,a,4,4,0,k\nsend,a,5,5,0,m\n",
+        "bad,1,unsent,n\nbad,3,sent-twice,m\nbad,4,unsent,k\nbad,5,sent-twice,m\n",
+    ),
+    (
+        "==> a.log <==\nreceive,a,5,10,1,m\nsend,a,10,10,0,m\n",
+        "bad,a.log:1,cycle\n",
+    ),
+];
+
+#[test]
+fn each_fault_may_be_told(rt: HostRuntime) {
+    let mut rules = PAIRS;
+    rules.records.faults = FaultRule::TellEach;
+    for (log, rows) in &ALL_FAULTS {
+        expect_report(
+            &rt,
+            rt.alloc(),
+            log.as_bytes(),
+            rules,
+            rows,
+            Outcome::BadLog,
+        );
     }
 }
 

@@ -33,6 +33,7 @@ fn a_send_comes_first(rt: HostRuntime) {
         stamp: Stamp { l: 2, c: 1 },
         has_stamp: true,
         carried: None,
+        seq: 0,
         line: 1,
     };
     let send = LogEvent {
@@ -43,6 +44,7 @@ fn a_send_comes_first(rt: HostRuntime) {
         stamp: Stamp { l: 2, c: 0 },
         has_stamp: true,
         carried: None,
+        seq: 0,
         line: 2,
     };
     let order = order_message(rt.alloc(), receive, send).expect(&rt, "an order");
@@ -66,6 +68,7 @@ fn messages_are_counted(rt: HostRuntime) {
         stamp: Stamp { l: 2, c: 0 },
         has_stamp: true,
         carried: None,
+        seq: 0,
         line: 1,
     };
     let mut log = Log::new(rt.alloc());

@@ -15,12 +15,12 @@ static LINES: [(&[u8], &[u8]); 12] = [
     (b"\n \t\r\n", b"\n\n"),
     (
         b"{\"kind\":\"send\",\"node\":\"a\",\"reading\":7,\"l\":7,\"c\":0,\"message\":\"m,1\",\"label\":\"x\\ny\\\\\\\"\"}\n{\"kind\":\"note\"}",
-        b"send,a,7,7,0,,\"m,1\",,,,,\"x\\ny\\\\\"\"\"\nskipped\n",
+        b"send,a,7,7,0,,\"m,1\",,,,,,\"x\\ny\\\\\"\"\"\nskipped\n",
     ),
     // A byte order mark before an object, and alone.
     (
         b"\xEF\xBB\xBF{\"kind\":\"local\"}\r\n\xEF\xBB\xBF\r\n",
-        b"local,,,,,,,,,,,\n\n",
+        b"local,,,,,,,,,,,,\n\n",
     ),
     // What is no UTF-8.
     (
@@ -35,27 +35,27 @@ static LINES: [(&[u8], &[u8]); 12] = [
     // A key that stands twice.
     (
         b"{\"kind\":\"local\",\"node\":\"a\",\"node\":\"b\"}",
-        b"local,b,,,,,,,,,,\n",
+        b"local,b,,,,,,,,,,,\n",
     ),
     // Half a surrogate pair.
     (b"{\"kind\":\"local\",\"node\":\"\\ud800\"}", b"skipped\n"),
     (
         b"{\"kind\":\"local\",\"node\":\"\\u0000\\r\\u00e9\"}",
-        b"local,\0\\r\xC3\xA9,,,,,,,,,,\n",
+        b"local,\0\\r\xC3\xA9,,,,,,,,,,,\n",
     ),
     // Values that are neither strings nor whole numbers of 64 bits.
     (
         b"{\"kind\":\"receive\",\"node\":true,\"reading\":-1,\"l\":1.5,\"c\":1e3,\"message\":null,\"from\":[1],\"label\":{\"a\":1}}",
-        b"receive,,-,-,-,,,,,,,\n",
+        b"receive,,-,-,-,,,,,,,,\n",
     ),
     (
-        b"{\"kind\":\"receive\",\"carried_l\":18446744073709551615,\"carried_c\":18446744073709551616}",
-        b"receive,,,,,,,,,18446744073709551615,-,\n",
+        b"{\"kind\":\"receive\",\"carried_l\":18446744073709551615,\"carried_c\":18446744073709551616,\"seq\":7}",
+        b"receive,,,,,,,,,18446744073709551615,-,7,\n",
     ),
     // Stamps as uhlc and others write them; other fields stay.
     (
         b"{\"kind\":\"receive\",\"stamp\":\"12:3/ab:4\",\"carried\":\"7:8:9\",\"message\":\"1:2/3\"}\n{\"kind\":\"local\",\"stamp\":\"/\",\"carried\":17}",
-        b"receive,,,12,3,12.3,1:2/3,,7.8:9,7,8:9,\nlocal,,,,,,,,17,17,,\n",
+        b"receive,,,12,3,12.3,1:2/3,,7.8:9,7,8:9,,\nlocal,,,,,,,,17,17,,,\n",
     ),
 ];
 
@@ -87,7 +87,11 @@ static NO_KINDS: [&str; 9] = [
 ];
 
 // What the input of a log gives.
-fn read_all(alloc: Global, rules: Option<JsonRules>, input: &[u8]) -> io::Result<Vec<u8>> {
+pub(crate) fn read_all(
+    alloc: Global,
+    rules: Option<JsonRules>,
+    input: &[u8],
+) -> io::Result<Vec<u8>> {
     let mut text = Vec::new(alloc);
     LogInput::new(alloc, Cursor::new(input), rules)?.read_to_end(&mut text)?;
     Ok(text)
@@ -146,7 +150,7 @@ fn rules_name_paths_and_words(rt: HostRuntime) -> Result<(), Fail> {
         rt.alloc(),
         rules,
         b"{\"type\":\"recv\",\"who\":{\"name\":\"a\"}}\n{\"type\":\"deliver\",\"who\":7}\n{\"type\":3,\"x\":4}\n{\"type\":\"send it\"}\n{\"type\":\"send\",\"node\":1}\n{\"kind\":\"send\"}\n{\"type\":\"\"}\n{\"type\":3.0}",
-        b"receive,a,,,,,,,,,,\nreceive,,,,,,,,,,,\nreceive,,,,,,,,,,,\nsend,,,,,,,,,,,\nsend,,,,,,,,,,,\nskipped\nskipped\nskipped\n",
+        b"receive,a,,,,,,,,,,,\nreceive,,,,,,,,,,,,\nreceive,,,,,,,,,,,,\nsend,,,,,,,,,,,,\nsend,,,,,,,,,,,,\nskipped\nskipped\nskipped\n",
     )
 }
 
@@ -181,7 +185,7 @@ fn long_lines_are_read(rt: HostRuntime) -> Result<(), Fail> {
     )?;
     push_line(
         &mut text,
-        b"local,,,,,,,,,,,\"",
+        b"local,,,,,,,,,,,,\"",
         b"ab,\\\\",
         200_000,
         b"\"\n",
@@ -194,6 +198,6 @@ fn long_lines_are_read(rt: HostRuntime) -> Result<(), Fail> {
     push_line(&mut input, b"", b"]", 126, b"}\n")?;
     push_line(&mut input, b"{\"kind\":\"local\",\"l\":", b"[", 200, b"")?;
     push_line(&mut input, b"", b"]", 200, b"}")?;
-    text.extend_from_slice(b"local,,,-,,,,,,,,\nskipped\nlocal,,,,,,,,,,,\nskipped\n")?;
+    text.extend_from_slice(b"local,,,-,,,,,,,,,\nskipped\nlocal,,,,,,,,,,,,\nskipped\n")?;
     expect_text(&rt, rt.alloc(), rules, input.as_slice(), text.as_slice())
 }

@@ -1,35 +1,39 @@
 // Records that stand for JSON lines, and records that were left out.
 
 use hlc_log_text::{
-    BadLine, BadLog, LogColumn, LogRules, LogTextFault, RecordSyntax, Skipped, StampForm, read_log,
+    BadLog, LogColumn, LogRules, LogTextFault, NameKey, RecordSyntax, Skipped, StampForm, read_log,
 };
 use std::alloc::Global;
 use std::process::Abort;
 
 // Records of all columns, each bad, with the reason: where stamps are two fields.
-static BAD_RECORDS: [(&[u8], BadLog); 13] = [
-    (b"local,,5,5,0,,,,,,,", BadLog::Missing(LogColumn::Node)),
-    (b"local,a,5,,,7.1,,,,,,", BadLog::Missing(LogColumn::L)),
-    (b"send,a,5,5,,,m,,,,,", BadLog::Missing(LogColumn::C)),
+static BAD_RECORDS: [(&[u8], BadLog); 14] = [
+    (b"local,,5,5,0,,,,,,,,", BadLog::Missing(LogColumn::Node)),
+    (b"local,a,5,,,7.1,,,,,,,", BadLog::Missing(LogColumn::L)),
+    (b"send,a,5,5,,,m,,,,,,", BadLog::Missing(LogColumn::C)),
     // Half a stamp, which no receive may leave empty, and a restart's.
-    (b"receive,a,5,,0,,m,,,,,", BadLog::Missing(LogColumn::L)),
-    (b"restart,a,,7,,,,,,,,", BadLog::Missing(LogColumn::C)),
+    (b"receive,a,5,,0,,m,,,,,,", BadLog::Missing(LogColumn::L)),
+    (b"restart,a,,7,,,,,,,,,", BadLog::Missing(LogColumn::C)),
     // Neither a message nor a sender, and a sender without what it sent.
-    (b"receive,a,5,,,,,,,,,", BadLog::Missing(LogColumn::Message)),
     (
-        b"receive,a,5,5,0,,,b,,,0,",
+        b"receive,a,5,,,,,,,,,,",
+        BadLog::Missing(LogColumn::Message),
+    ),
+    (
+        b"receive,a,5,5,0,,,b,,,0,,",
         BadLog::Missing(LogColumn::CarriedL),
     ),
     (
-        b"receive,a,5,5,0,,,b,,5,,",
+        b"receive,a,5,5,0,,,b,,5,,,",
         BadLog::Missing(LogColumn::CarriedC),
     ),
     // What is there, but no number, and what isn't such a record.
-    (b"local,a,-,5,0,,,,,,,", BadLog::Number(LogColumn::Reading)),
+    (b"local,a,-,5,0,,,,,,,,", BadLog::Number(LogColumn::Reading)),
     (
-        b"receive,a,5,5,0,,m,,,,0,",
+        b"receive,a,5,5,0,,m,,,,0,,",
         BadLog::Number(LogColumn::CarriedL),
     ),
+    (b"local,a,5,5,0,,,,,,,-,", BadLog::Number(LogColumn::Seq)),
     (b"local,a,5,5,0,", BadLog::Fields),
     (b"skipped,", BadLog::Fields),
     (b"kind,node,reading,l,c", BadLog::Word),
@@ -37,15 +41,15 @@ static BAD_RECORDS: [(&[u8], BadLog); 13] = [
 
 // And where a stamp is one.
 static BAD_DOTTED: [(&[u8], BadLog); 2] = [
-    (b"local,a,5,5,0,,,,,,,", BadLog::Missing(LogColumn::Stamp)),
+    (b"local,a,5,5,0,,,,,,,,", BadLog::Missing(LogColumn::Stamp)),
     (
-        b"receive,a,5,,,,,b,,5,0,",
+        b"receive,a,5,,,,,b,,5,0,,",
         BadLog::Missing(LogColumn::Carried),
     ),
 ];
 
 // A log of all columns, whose send has no name, and whose receive tells no stamp; some lines were left out.
-const RECORDS: &str = "\nskipped\nsend,a,5,5,0,7.1,,b,,,,x\nskipped\nreceive,b,,,,,,a,,5,0,\n";
+const RECORDS: &str = "\nskipped\nsend,a,5,5,0,7.1,,b,,,,2,x\nskipped\nreceive,b,,,,,,a,,5,0,,\n";
 
 fn rules(syntax: RecordSyntax, form: StampForm) -> LogRules {
     LogRules {
@@ -55,9 +59,19 @@ fn rules(syntax: RecordSyntax, form: StampForm) -> LogRules {
 }
 
 fn expect_bad(rt: &impl Abort, alloc: Global, record: &[u8], form: StampForm, why: BadLog) {
-    let found = read_log(alloc, record, rules(RecordSyntax::JsonLines, form), 16).err();
-    let expected = Some(LogTextFault::Bad(BadLine { line: 1, why }));
-    assert!(rt; found == expected, "{found:?}");
+    let found = read_log(
+        alloc,
+        record,
+        rules(RecordSyntax::JsonLines, form),
+        16,
+        NameKey::fixed(),
+    )
+    .err();
+    let Some(LogTextFault::Bad(records)) = found else {
+        panic!(rt; "no bad record");
+    };
+    let told = records.first().map(|record| record.why);
+    assert!(rt; told == Some(why), "{told:?}");
 }
 
 #[test]
@@ -79,7 +93,7 @@ fn expect_skipped(
     expected: (u32, u32, u32),
 ) {
     let rules = rules(syntax, StampForm::Pair);
-    let text = read_log(alloc, text.as_bytes(), rules, 16).expect(rt, "a log");
+    let text = read_log(alloc, text.as_bytes(), rules, 16, NameKey::fixed()).expect(rt, "a log");
     let (events, skipped) = (text.log.len(), text.skipped);
     drop(text);
     let Skipped { count, line } = skipped.expect(rt, "records that were left out");

@@ -26,8 +26,12 @@ mod questions;
 #[cfg(test)]
 mod restarts;
 #[cfg(test)]
+mod seqs;
+#[cfg(test)]
 mod sizes;
 #[cfg(test)]
 mod slow;
 #[cfg(test)]
 mod stamp_forms;
+#[cfg(test)]
+mod watches;

@@ -3,7 +3,7 @@
 use crate::log_texts::log_of;
 use crate::slow::Slow;
 use hlc_log::{LogKind, MessageId};
-use hlc_log_text::{LogRules, LogText, Names, StampForm, read_log};
+use hlc_log_text::{LogRules, LogText, NameKey, Names, StampForm, read_log};
 use hlc_stamp::{EventId, NodeId};
 use std::alloc::{AllocError, Global};
 use std::process::Abort;
@@ -58,7 +58,14 @@ fn expect_read_slowly(rt: &impl Abort, alloc: Global, bytes: &[u8], lines: &[u32
         bytes,
         fails: false,
     };
-    let text = read_log(alloc, slow, LogRules::exact(StampForm::Pair), 16).expect(rt, "a log");
+    let text = read_log(
+        alloc,
+        slow,
+        LogRules::exact(StampForm::Pair),
+        16,
+        NameKey::fixed(),
+    )
+    .expect(rt, "a log");
     expect_lines(rt, &text, lines);
     drop(text);
 }

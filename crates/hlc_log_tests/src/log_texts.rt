@@ -4,7 +4,7 @@ ghost use Rattle.std.specs.Prelude.{◌≤◌};
 ghost use Rattle.hlc_stamp.specs.declared.limits.TheConstants.{MAX_CAPACITY};
 
 use hlc_log_text::{
-    BadLine, BadLog, LogColumn, LogQuestion, LogRules, LogText, LogTextFault, StampForm,
+    BadLog, LogColumn, LogQuestion, LogRules, LogText, LogTextFault, NameKey, StampForm,
     question_of, read_log,
 };
 use hlc_stamp::EventId;
@@ -14,21 +14,21 @@ use std::process::Abort;
 // Questions before, between and after events, some of them of lines with no event.
 const QUESTIONS: &str = "explain,18446744073709551615\n\
     send,a,1,1,0,m\n\ncheck,2\nrelation,5,2\nreceive,b,2,2,0,m\n\
-    check,5,0,2,2\ninfluenced,2\ndrift,\"b\"\nclaimed,5\nevent,007\n";
+    check,5,0,2\ninfluenced,2\ndrift,\"b\"\nclaimed,5\nevent,007\n";
 
 static ASKED: [&str; 8] = [
-    "Explain(Line(18446744073709551615))",
-    "Check { line: Line(2), chain: [] }",
-    "Relation { first: Line(5), second: Line(2) }",
-    "Check { line: Line(5), chain: [Line(0), Line(2), Line(2)] }",
-    "Influenced(Line(2))",
+    "Explain(Location { file: None, line: 18446744073709551615 })",
+    "Check { event: Location { file: None, line: 2 }, chain: [] }",
+    "Relation { first: Location { file: None, line: 5 }, second: Location { file: None, line: 2 } }",
+    "Check { event: Location { file: None, line: 5 }, chain: [Location { file: None, line: 0 }, Location { file: None, line: 2 }] }",
+    "Influenced(Location { file: None, line: 2 })",
     "Drift([98])",
-    "Claimed(Line(5))",
-    "Event(Line(7))",
+    "Claimed(Location { file: None, line: 5 })",
+    "Event(Location { file: None, line: 7 })",
 ];
 
 // Texts that are no logs: with the line of the first bad record, and why it is bad.
-static BAD_TEXTS: [(&[u8], u32, BadLog); 30] = [
+static BAD_TEXTS: [(&[u8], u64, BadLog); 30] = [
     // UTF-16, in both orders of bytes.
     (b"\xff\xfel\0o\0c\0a\0l\0,\0a\0", 1, BadLog::Word),
     (b"\xfe\xff\0l\0o\0c\0a\0l\0,\0a", 1, BadLog::Word),
@@ -124,15 +124,50 @@ static HEADED: [(&[u8], Option<&[u8]>); 2] = [
 
 // Reads a log. Callers end with `drop`: it is checked much faster than a drop at the end of a scope.
 pub(crate) fn log_of(rt: &impl Abort, alloc: Global, text: &[u8]) -> LogText {
-    read_log(alloc, text, LogRules::exact(StampForm::Pair), 16).expect(rt, "a log")
+    read_log(
+        alloc,
+        text,
+        LogRules::exact(StampForm::Pair),
+        16,
+        NameKey::fixed(),
+    )
+    .expect(rt, "a log")
 }
 
-// Reads a text as a log of at most so many records, and compares why that fails, if it does.
-fn expect_fault(rt: &impl Abort, alloc: Global, text: &[u8], most: u32, fault: Option<LogTextFault>)
+// Reads a text as a log of at most so many records.
+fn read_up_to(alloc: Global, text: &[u8], most: u32) -> Result<LogText, LogTextFault>
     requires { most ≤ MAX_CAPACITY }
 {
-    let found = read_log(alloc, text, LogRules::exact(StampForm::Pair), most).err();
-    assert!(rt; found == fault, "{found:?}");
+    read_log(
+        alloc,
+        text,
+        LogRules::exact(StampForm::Pair),
+        most,
+        NameKey::fixed(),
+    )
+}
+
+// Reads a text as a log, and compares which line is bad, and why.
+fn expect_bad(rt: &impl Abort, alloc: Global, text: &[u8], line: u64, why: BadLog) {
+    let Some(LogTextFault::Bad(records)) = read_up_to(alloc, text, 16).err() else {
+        panic!(rt; "no bad record");
+    };
+    let told: Vec<(u64, BadLog)> = records
+        .iter()
+        .map(|record| (record.location.line, record.why))
+        .collect(alloc)
+        .expect(rt, "memory");
+    assert!(rt; told.as_slice() == [(line, why)].as_slice(), "{told:?}");
+}
+
+// Reads a text as a log of at most so many records, and looks whether it has more.
+fn expect_length(rt: &impl Abort, alloc: Global, text: &[u8], most: u32, is_too_long: bool)
+    requires { most ≤ MAX_CAPACITY }
+{
+    match read_up_to(alloc, text, most).err() {
+        None => assert!(rt; !is_too_long),
+        Some(fault) => assert!(rt; is_too_long && matches!(fault, LogTextFault::TooLong)),
+    }
 }
 
 fn expect_question(rt: &impl Abort, alloc: Global, question: &LogQuestion, expected: &str) {
@@ -149,6 +184,21 @@ fn expect_asked(rt: &impl Abort, alloc: Global, text: &LogText, asked: &[&str]) 
 
 fn expect_label(rt: &impl Abort, text: &LogText, place: u32, label: Option<&[u8]>) {
     assert!(rt; text.labels.get(EventId(place)) == label, "{place}");
+}
+
+// A question, an event, and a file with a header and another event.
+const FILED: &str = "event,b:c:2\nlocal,a,1,1,0\n==> b:c <==\nkind,node,l,c\nlocal,a,2,0\n";
+
+#[test]
+fn a_mark_begins_a_file(rt: HostRuntime) {
+    let text = log_of(&rt, rt.alloc(), FILED.as_bytes());
+    let asked = "Event(Location { file: Some([98, 58, 99]), line: 2 })";
+    expect_asked(&rt, rt.alloc(), &text, &[asked]);
+    assert!(&rt; text.log.len() == 2);
+    assert!(&rt; text.files.mark_before(3).is_none());
+    let mark = text.files.mark_before(5).expect(&rt, "a mark");
+    assert!(&rt; &mark.name[..] == b"b:c".as_slice() && mark.line == 3);
+    drop(text);
 }
 
 #[test]
@@ -191,8 +241,7 @@ fn labels_stand_at_their_events(rt: HostRuntime) {
 fn other_texts_are_bad(rt: HostRuntime) {
     for (text, line, why) in &BAD_TEXTS {
         let (line, why) = (*line, *why);
-        let fault = LogTextFault::Bad(BadLine { line, why });
-        expect_fault(&rt, rt.alloc(), text, 16, Some(fault));
+        expect_bad(&rt, rt.alloc(), text, line, why);
     }
 }
 
@@ -200,7 +249,13 @@ fn other_texts_are_bad(rt: HostRuntime) {
 #[test]
 fn a_byte_order_mark_is_no_part_of_a_word(rt: HostRuntime) {
     let marked = b"\xef\xbb\xbfevent,2\nlocal,a,1,1,0\n".as_slice();
-    expect_one(&rt, rt.alloc(), marked, &["Event(Line(2))"], None);
+    expect_one(
+        &rt,
+        rt.alloc(),
+        marked,
+        &["Event(Location { file: None, line: 2 })"],
+        None,
+    );
 }
 
 // Reads a log of one event.
@@ -223,7 +278,13 @@ fn closed_quotation_marks_are_no_fault(rt: HostRuntime) {
 #[test]
 fn a_header_places_labels_and_no_questions(rt: HostRuntime) {
     for (text, label) in &HEADED {
-        expect_one(&rt, rt.alloc(), text, &["Event(Line(2))"], *label);
+        expect_one(
+            &rt,
+            rt.alloc(),
+            text,
+            &["Event(Location { file: None, line: 2 })"],
+            *label,
+        );
     }
 }
 
@@ -231,16 +292,16 @@ fn a_header_places_labels_and_no_questions(rt: HostRuntime) {
 #[test]
 fn as_many_records_as_are_allowed_are_read(rt: HostRuntime) {
     for text in ["", "local,a,1,1,0\n", "local,a,1,1,0", "event,1\n\n"] {
-        expect_fault(&rt, rt.alloc(), text.as_bytes(), 1, None);
+        expect_length(&rt, rt.alloc(), text.as_bytes(), 1, false);
     }
-    expect_fault(&rt, rt.alloc(), b"\n", 0, None);
+    expect_length(&rt, rt.alloc(), b"\n", 0, false);
 }
 
 #[test]
 fn questions_are_records_of_the_limit(rt: HostRuntime) {
     let text = b"event,2\nlocal,a,1,1,0\n".as_slice();
-    expect_fault(&rt, rt.alloc(), text, 1, Some(LogTextFault::TooLong));
-    expect_fault(&rt, rt.alloc(), text, 2, None);
+    expect_length(&rt, rt.alloc(), text, 1, true);
+    expect_length(&rt, rt.alloc(), text, 2, false);
 }
 
 static NO_QUESTIONS: [&str; 6] = [
@@ -255,7 +316,8 @@ static NO_QUESTIONS: [&str; 6] = [
 fn expect_relation(rt: &impl Abort, alloc: Global, text: &str) {
     let found = question_of(alloc, text.as_bytes()).expect(rt, "memory");
     let question = found.expect(rt, "a question");
-    let relation = "Relation { first: Line(3), second: Line(1) }";
+    let relation =
+        "Relation { first: Location { file: None, line: 3 }, second: Location { file: None, line: 1 } }";
     expect_question(rt, alloc, &question, relation);
 }
 

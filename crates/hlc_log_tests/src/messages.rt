@@ -61,7 +61,7 @@ static RESENT: [(Option<Resent>, &str, Outcome); 3] = [
         node,a,2,0,2,2\nnode,b,2,5,5,4\nnode,c,1,0,6,6\nmessages,2,3,1,0\nskew,a,b,5,4,5\nskew,a,c,-12,2,6\nresent,1\n",
         Outcome::Sound,
     ),
-    (None, "bad,4,sent-twice\n", Outcome::BadLog),
+    (None, "bad,4,sent-twice,m\n", Outcome::BadLog),
 ];
 
 #[test]

@@ -3,7 +3,7 @@
 use crate::audits::{BROKEN, PAIRS, expect_audited, expect_report};
 use hlc_causality::Receives;
 use hlc_log_audit::{AuditRules, Outcome, audit_run};
-use hlc_log_text::{FaultRule, Line, LogQuestion, LogRules, RecordSyntax, StampForm};
+use hlc_log_text::{FaultRule, Location, LogQuestion, LogRules, NameKey, RecordSyntax, StampForm};
 use std::alloc::Global;
 use std::process::Abort;
 
@@ -117,9 +117,25 @@ const REPORTED: AuditRules = AuditRules {
 
 #[test]
 fn answers_come_in_order(rt: HostRuntime) {
-    let asked = [LogQuestion::Explain(Line(2)), LogQuestion::Claimed(Line(1))];
+    let asked = [
+        LogQuestion::Explain(Location {
+            file: None,
+            line: 2,
+        }),
+        LogQuestion::Claimed(Location {
+            file: None,
+            line: 1,
+        }),
+    ];
     let mut out = Vec::new(rt.alloc());
-    let found = audit_run(rt.alloc(), ASKING.as_bytes(), &mut out, PAIRS, &asked);
+    let found = audit_run(
+        rt.alloc(),
+        ASKING.as_bytes(),
+        &mut out,
+        PAIRS,
+        &asked,
+        NameKey::fixed(),
+    );
     let rows = "event,2,a,10,9,0,10,0,behind\nchain,2,10,0,2\nrefused,no-event\n";
     expect_audited(&rt, &out, rows, found, Ok(BROKEN));
 }

@@ -19,11 +19,11 @@ static RESTARTS: [(&str, &str, Outcome); 7] = [
         "count,least,3\nnode,a,3,5,4,3\nmessages,0,0,0,0\nunread,1\n",
         Outcome::Sound,
     ),
-    // A kept clock that isn't above the past: what counts on from it is too low.
+    // A kept clock that isn't above the past: what counts on from it is too low. Had it come back one event earlier, it would be right.
     (
         "local,a,10,10,5\nlocal,a,12,12,0\nrestart,a,,11,0\nlocal,a,11,11,1\n",
         "count,not-above,1\ncount,low,1\ncount,least,1\ncount,ahead,1\n\
-        cause,1,a,ahead,10,0\ncause,3,a,not-above,2\nnode,a,4,1,4,2\nmessages,0,0,0,0\nunread,1\n",
+        cause,1,a,ahead,10,0\ncause,3,a,not-above,2,swapped\nnode,a,4,1,4,2\nmessages,0,0,0,0\nunread,1\n",
         BROKEN,
     ),
     // One that is the last stamp itself.
@@ -56,7 +56,7 @@ fn nodes_may_come_back(rt: HostRuntime) {
     expect_reports(&rt, rt.alloc(), PAIRS, &RESTARTS);
 }
 
-// A restart isn't above what its node received, whose clock merged: only the next event is.
+// A restart isn't above what its node received, whose clock merged: only the next event is. A receive after it would have the same stamp.
 const MERGED_RESTART: &str =
     "send,a,12,12,0,m\nreceive,b,5,12,0,m\nrestart,b,,12,0\nlocal,b,6,12,1\n";
 
@@ -70,7 +70,7 @@ fn a_restart_counts_on_where_receives_merge(rt: HostRuntime) {
         },
         ..PAIRS
     };
-    let rows = "count,not-above,1\ncount,low,1\ncount,least,2\ncause,3,b,not-above,2\n\
+    let rows = "count,not-above,1\ncount,low,1\ncount,least,2\ncause,3,b,not-above,2,swapped\n\
         node,a,1,0,1,1\nnode,b,3,7,2,1\nmessages,1,1,0,0\nskew,a,b,7,1,2\nunread,1\n";
     expect_report(
         &rt,

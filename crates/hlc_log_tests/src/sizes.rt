@@ -1,6 +1,6 @@
 // A long label.
 
-use hlc_log_text::{LogRules, StampForm, read_log};
+use hlc_log_text::{LogRules, NameKey, StampForm, read_log};
 use hlc_stamp::EventId;
 use std::alloc::{AllocError, Global};
 
@@ -14,8 +14,13 @@ fn a_long_label_is_kept(rt: HostRuntime) {
     let alloc = rt.alloc();
     let label = "label ".repeat(alloc, 1_000).expect(&rt, "memory");
     let log = labelled(alloc, label.as_str()).expect(&rt, "memory");
-    let text = read_log(alloc, log.as_bytes(), LogRules::exact(StampForm::Pair), 1).expect(
-        &rt, "a log",
-    );
+    let text = read_log(
+        alloc,
+        log.as_bytes(),
+        LogRules::exact(StampForm::Pair),
+        1,
+        NameKey::fixed(),
+    )
+    .expect(&rt, "a log");
     assert!(rt; text.labels.get(EventId(0)) == Some(label.as_bytes()));
 }

@@ -103,6 +103,7 @@ module _ (items : List LogItem) (lines : List ℕ) (partial : PartialLog) (h : I
       named = h.held.log.named;
       apart = apart_is;
       nodes = h.held.log.nodes;
+      names = h.messages;
       messages = λ i. apart_count (unnamed_in (h.messages i)) (length (h.messages i)) (length raw);
       few_nodes = h.held.log.few_nodes;
       few_messages = few_apart_if (length partial.messages) (nodes_named partial.nodes partial.senders (length raw)) raw (unnamed_in partial.messages) h.held.log.few_messages;
@@ -112,6 +113,7 @@ module _ (items : List LogItem) (lines : List ℕ) (partial : PartialLog) (h : I
     questions = h.held.questions;
     skipped = h.held.skipped;
     left_out = h.held.left_out;
+    files = h.held.files;
   }
 
 on_lines_same : (bytes : Option (List ℕ)) (items : List LogItem) (these others : List LogEvent)
@@ -135,6 +137,8 @@ is_whole rules most bytes partial h = record {
       h.on_lines;
   skipped = h.skipped;
   left_out = h.left_out;
+  files = h.files;
+  taken = h.taken;
 }
 
 pub is_text_read : (rules : LogRules) (most : ℕ) (bytes : Option (List ℕ)) (old new : PartialLog) (nodes : List (List ℕ)) → IsFinished old new nodes

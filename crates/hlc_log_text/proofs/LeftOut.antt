@@ -5,7 +5,6 @@ use Rattle.hlc_csv.specs.declared.found_record.TheConstants.{LAST_LINE}
 use Rattle.hlc_log_text.specs.LogItem.{Fails, LogItem, item_after}
 use Rattle.hlc_log_text.specs.PartialLog.{IsBadFound, IsNextLine, IsPartialLog, LeavesNext, Takes, TakesOr}
 use Rattle.hlc_log_text.specs.declared.bad_log.BadLine.{BadLine}
-use Rattle.hlc_log_text.specs.declared.bad_log.BadLog.{BadLog}
 use Rattle.hlc_log_text.specs.declared.log_rules.LogRules.{LogRules}
 use Rattle.hlc_log_text.specs.declared.partial_log.PartialLog.{PartialLog}
 

@@ -3,12 +3,14 @@ pub mod LogFacts
 pub mod NameFacts
 pub mod NamedLogs
 pub mod NamedNodes
-pub mod PackedOrder
 pub mod PlainLogs
 pub mod QuestionTexts
 pub mod ReadFacts
 pub mod ApartTexts
 pub mod ReadingFacts
-pub mod CarriedItems
+pub mod ExtendedItems
+pub mod SentNames
 pub mod StampsTold
 pub mod TakenItems
+pub mod FileMarks
+pub mod ListedLocations

@@ -1,32 +1,38 @@
 -- One more record of a log, and its event.
 use Rattle.std.proofs.Common.{◌≡◌, ◌∙◌, ℕ, zero, suc, ◌+◌, ◌<◌, ◌≤◌, All, AllPairs, Bool, true, false, List, [], ◌∷◌, ◌++◌, Option, Some, None, ap, arith, cond, filter, length, length-append, map, refl, sym, subst}
-use Rattle.std.specs.Prelude.{◌==◌, slice_get}
+use Rattle.std.specs.Prelude.{◌==◌, ◌||◌, IsTrue, is_some, slice_get}
 use Rattle.std.specs.Option.{option_and_then}
 use Rattle.std.specs.List.{cons_option, filter_map}
 use Rattle.std.proofs.lemmas.List.{append-nil, length-map, map_push}
 use Rattle.std.proofs.lemmas.List.Elements.{All-head, All-push, All-tail, All-weaker, filter_map-append}
 use Rattle.std.proofs.lemmas.List.Quantifiers.{all_pairs_push}
+use Rattle.std.proofs.lemmas.List.Sums.{fold-append}
+use Rattle.hlc_log_text.specs.declared.file_mark.FileMark.{FileMark}
 use Rattle.hlc_log.specs.declared.log_event.LogEvent.{LogEvent}
 use Rattle.hlc_log.specs.declared.log_event.LogKind.{LogKind}
 use Rattle.hlc_log.specs.declared.log_event.LogKind.TheVariants.{Local, Outside, Receive, Restart, Send}
 use Rattle.hlc_log.specs.declared.log_event.TheConstants.{MAX_LOG_NODES}
 use Rattle.hlc_log.specs.Events.{IsMessageBelow, IsNumbered}
+use Rattle.hlc_log.specs.Unsent.{is_send}
 use Rattle.hlc_log_text.specs.Names.{first_mentions, with_name}
 use Rattle.hlc_log_text.specs.declared.bad_log.BadLine.{BadLine}
 use Rattle.hlc_log_text.specs.declared.bad_log.BadLog.{BadLog}
 use Rattle.hlc_log_text.specs.declared.columns.Columns.{Columns}
+use Rattle.hlc_log_text.specs.FileMarks.{file_mark}
 use Rattle.hlc_log_text.specs.Labels.{GivesLabel, label_at}
-use Rattle.hlc_log_text.specs.LogItem.{Asks, Fails, LogItem, Names, Skips, Tells, bad_line, bad_lines_in, event_lines, events_in, header_columns, if_asked, if_event, if_reason, is_telling, lines_where, questions_in, reasons_in}
+use Rattle.hlc_log_text.specs.LogItem.{Asks, Begins, Fails, LogItem, Names, Skips, Tells, bad_line, bad_lines_in, columns_then, event_lines, events_in, file_names_in, header_columns, if_asked, if_event, if_file, if_reason, is_at_start, is_telling, lines_where, marks_in, picked_in, questions_in, reasons_in}
 use Rattle.hlc_log_text.specs.LogText.{IsRawLogOf, IsNamed, IsRawTextOf, kind_message, message_names, node_names, record_count, sender_of_event, with_names}
-use Rattle.hlc_log_text.specs.PartialLog.{IsNextLine, IsPartialLog, last_of, text_of, with_message}
+use Rattle.hlc_log_text.specs.PartialLog.{AreMarked, IsNextLine, IsPartialLog, last_of, mark_at, text_of, with_message}
 use Rattle.hlc_log_text.specs.NamedEvent.{NamedEvent, without_asides}
 use Rattle.hlc_log_text.specs.Question.{Asked, plain_asked}
 use Rattle.hlc_log_text.specs.Skipped.{is_skip, skip_count, skipped_count, skipped_in, skipped_on, with_skip}
 use Rattle.hlc_log_text.specs.declared.log_text.LogText.{LogText}
 use Rattle.hlc_log_text.specs.declared.question.LogQuestion.{LogQuestion}
 use Rattle.hlc_log_text.specs.declared.partial_log.PartialLog.{PartialLog}
+use Rattle.hlc_log_text.specs.declared.sent_marks.SentMarks.{SentMarks}
 use Rattle.hlc_log_text.specs.declared.skipped.Skipped.{Skipped}
 use Rattle.hlc_log_text.proofs.NameFacts.{first_mentions-push, length-with_name, name_of-with_name}
+use Rattle.hlc_log_text.proofs.SentNames.{marked-more}
 
 -- the names that one more record mentions
 pub node_names-push : (events : List NamedEvent) (r : NamedEvent) → node_names (events ++ r ∷ []) ≡ with_name (node_names events) r.node
@@ -77,7 +83,7 @@ module _ (nodes messages : List (List ℕ)) (node : List ℕ) (m : Option (List 
   same_names e named =
       let node_is = name_of-with_name nodes node e.node.0 named.0 in
       let message_is = kind_message-more messages m e.kind named.1 in
-      λ i. record { head = (with_names nodes messages e).head; node = node_is i; message = message_is i; from = None; carried = e.carried; label = None }
+      λ i. record { head = (with_names nodes messages e).head; node = node_is i; message = message_is i; from = None; carried = e.carried; seq = e.seq; label = None }
 
   pub map-with_names : (log_events : List LogEvent) → All (IsNamed nodes messages) log_events
       → map (with_names nodes' messages') log_events ≡ map (with_names nodes messages) log_events
@@ -156,14 +162,12 @@ one_each-more : (items : List LogItem) (lines : List ℕ) (item : LogItem) (line
 one_each-more items lines item line each =
     length-append lines (line ∷ []) ∙ ap (λ n. n + 1) each ∙ sym (length-append items (item ∷ []))
 
--- only the first record names columns
-pub header_columns-more : (items : List LogItem) (item : LogItem) → header_columns (item ∷ []) ≡ None → header_columns (items ++ item ∷ []) ≡ header_columns items
-header_columns-more [] item none = none
-header_columns-more (Tells e ∷ items) item none = refl
-header_columns-more (Asks a ∷ items) item none = refl
-header_columns-more (Names c ∷ items) item none = refl
-header_columns-more (Skips ∷ items) item none = refl
-header_columns-more (Fails why ∷ items) item none = refl
+-- the columns after one more record, and whether the next is the first of a file
+pub header_columns-more : (items : List LogItem) (item : LogItem) → header_columns (items ++ item ∷ []) ≡ columns_then (header_columns items) item
+header_columns-more items item = fold-append columns_then None items (item ∷ [])
+
+pub at_start-more : (items : List LogItem) (item : LogItem) → is_at_start (items ++ item ∷ []) ≡ is_some (if_file item)
+at_start-more items item = fold-append (λ (_ : Bool) (item : LogItem). is_some (if_file item)) true items (item ∷ [])
 
 -- no record tells of more than one event, asks more than one question, says more than once that it was left out or is left out more than once, or does
 -- two of these
@@ -173,6 +177,7 @@ length-items (Tells event ∷ items) = let rest = length-items items in omega ar
 length-items (Asks asked ∷ items) = let rest = length-items items in omega arith
 length-items (Names columns ∷ items) = let rest = length-items items in omega arith
 length-items (Skips ∷ items) = let rest = length-items items in omega arith
+length-items (Begins name ∷ items) = let rest = length-items items in omega arith
 length-items (Fails why ∷ items) = let rest = length-items items in omega arith
 
 pub length-log : (events : List NamedEvent) (text : LogText) → IsRawLogOf events text → length text.log.events ≡ length events
@@ -189,25 +194,56 @@ record_count-items items text h =
     let all = length-items items in
     omega arith
 
--- one more record that is left out, or isn't
-cons_option-append : (o : Option BadLine) (xs ys : List BadLine) → cons_option o (xs ++ ys) ≡ cons_option o xs ++ ys
+-- what is picked of one more record
+cons_option-append : {A : Type 0} (o : Option A) (xs ys : List A) → cons_option o (xs ++ ys) ≡ cons_option o xs ++ ys
 cons_option-append None xs ys = refl
-cons_option-append (Some b) xs ys = refl
+cons_option-append (Some x) xs ys = refl
 
+module _ {A : Type 0} (pick : ℕ → LogItem → Option A) where
+  picked-more : (items : List LogItem) (lines : List ℕ) (item : LogItem) (line : ℕ) → length lines ≡ length items
+      → picked_in pick (items ++ item ∷ []) (lines ++ line ∷ []) ≡ picked_in pick items lines ++ cons_option (pick line item) []
+  picked-more [] [] item line each = refl
+  picked-more [] (l ∷ lines) item line each = absurd (omega (arith, each))
+  picked-more (i ∷ items) [] item line each = absurd (omega (arith, each))
+  picked-more (i ∷ items) (l ∷ lines) item line each =
+      ap (cons_option (pick l i)) (picked-more items lines item line (omega (arith, each)))
+      ∙ cons_option-append (pick l i) (picked_in pick items lines) (cons_option (pick line item) [])
+
+  picked-same : (items : List LogItem) (lines : List ℕ) (item : LogItem) (line : ℕ) → pick line item ≡ None → length lines ≡ length items
+      → picked_in pick (items ++ item ∷ []) (lines ++ line ∷ []) ≡ picked_in pick items lines
+  picked-same items lines item line other each =
+      picked-more items lines item line each
+      ∙ ap (λ (o : Option A). picked_in pick items lines ++ cons_option o []) other ∙ append-nil (picked_in pick items lines)
+
+-- one more record that is left out, or isn't
 bad_lines-more : (items : List LogItem) (lines : List ℕ) (item : LogItem) (line : ℕ) → length lines ≡ length items
     → bad_lines_in (items ++ item ∷ []) (lines ++ line ∷ []) ≡ bad_lines_in items lines ++ cons_option (bad_line line (if_reason item)) []
-bad_lines-more [] [] item line each = refl
-bad_lines-more [] (l ∷ lines) item line each = absurd (omega (arith, each))
-bad_lines-more (i ∷ items) [] item line each = absurd (omega (arith, each))
-bad_lines-more (i ∷ items) (l ∷ lines) item line each =
-    ap (cons_option (bad_line l (if_reason i))) (bad_lines-more items lines item line (omega (arith, each)))
-    ∙ cons_option-append (bad_line l (if_reason i)) (bad_lines_in items lines) (cons_option (bad_line line (if_reason item)) [])
+bad_lines-more = picked-more (λ line item. bad_line line (if_reason item))
 
 bad_lines-same : (items : List LogItem) (lines : List ℕ) (item : LogItem) (line : ℕ) → if_reason item ≡ None → length lines ≡ length items
     → bad_lines_in (items ++ item ∷ []) (lines ++ line ∷ []) ≡ bad_lines_in items lines
 bad_lines-same items lines item line other each =
-    bad_lines-more items lines item line each
-    ∙ ap (λ (why : Option BadLog). bad_lines_in items lines ++ cons_option (bad_line line why) []) other ∙ append-nil (bad_lines_in items lines)
+    picked-same (λ line item. bad_line line (if_reason item)) items lines item line (ap (bad_line line) other) each
+
+-- one more record that begins a file, or doesn't
+pub marks-more : (items : List LogItem) (lines : List ℕ) (item : LogItem) (line : ℕ) → length lines ≡ length items
+    → marks_in (items ++ item ∷ []) (lines ++ line ∷ []) ≡ marks_in items lines ++ cons_option (file_mark line (if_file item)) []
+marks-more = picked-more (λ line item. file_mark line (if_file item))
+
+pub marks-same : (items : List LogItem) (lines : List ℕ) (item : LogItem) (line : ℕ) → if_file item ≡ None → length lines ≡ length items
+    → marks_in (items ++ item ∷ []) (lines ++ line ∷ []) ≡ marks_in items lines
+marks-same items lines item line other each =
+    picked-same (λ line item. file_mark line (if_file item)) items lines item line (ap (file_mark line) other) each
+
+-- the names of the files
+names_of_marks : (items : List LogItem) (lines : List ℕ) → length lines ≡ length items → map (λ (mark : FileMark). mark.name) (marks_in items lines) ≡ file_names_in items
+names_of_marks [] lines each = refl
+names_of_marks (item ∷ items) [] each = absurd (omega (arith, each))
+names_of_marks (item ∷ items) (line ∷ lines) each = by (if_file item) (names_of_marks items lines (omega (arith, each))) where
+  by : (name : Option (List ℕ)) → map (λ (mark : FileMark). mark.name) (marks_in items lines) ≡ file_names_in items
+      → map (λ (mark : FileMark). mark.name) (cons_option (file_mark line name) (marks_in items lines)) ≡ cons_option name (file_names_in items)
+  by None rest = rest
+  by (Some name) rest = ap (λ (names : List (List ℕ)). name ∷ names) rest
 
 -- why they are bad
 reasons_of : (items : List LogItem) (lines : List ℕ) → length lines ≡ length items → map (λ (b : BadLine). b.why) (bad_lines_in items lines) ≡ reasons_in items
@@ -262,6 +298,10 @@ pub record Continues (old new : PartialLog) (r : NamedEvent) (e : LogEvent) : Ty
   pub columns : new.columns ≡ old.columns
   pub skipped : new.skipped ≡ old.skipped
   pub left_out : new.left_out ≡ old.left_out
+  pub kept : new.sent.is_kept ≡ old.sent.is_kept
+  pub marks : IsTrue old.sent.is_kept → (m : ℕ) → mark_at new.sent m ≡ (mark_at old.sent m || is_send m e.kind)
+  pub files : new.files ≡ old.files
+  pub at_start : new.at_start ≡ false
 
 module _ (items : List LogItem) (lines : List ℕ) (old new : PartialLog) (r : NamedEvent) (e : LogEvent) (h : IsPartialLog items lines old) (n : Continues old new r e) where
   abbrev events : List NamedEvent
@@ -340,6 +380,9 @@ module _ (items : List LogItem) (lines : List ℕ) (old new : PartialLog) (r : N
   left_out_told : new.left_out.items ≡ bad_lines_in (items ++ Tells r ∷ []) (lines ++ e.line ∷ [])
   left_out_told = rw n.left_out (h.left_out ∙ sym (bad_lines-same items lines (Tells r) e.line refl h.one_each))
 
+  files_told : new.files ≡ marks_in (items ++ Tells r ∷ []) (lines ++ e.line ∷ [])
+  files_told = n.files ∙ h.files ∙ sym (marks-same items lines (Tells r) e.line refl h.one_each)
+
   pub is_reading-more : IsPartialLog (items ++ Tells r ∷ []) (lines ++ e.line ∷ []) new
   is_reading-more =
       let line = n.line in
@@ -355,6 +398,7 @@ module _ (items : List LogItem) (lines : List ℕ) (old new : PartialLog) (r : N
           questions = rw n.questions (h.held.questions ∙ sym (questions_in-tells items r));
           skipped = ap skipped_count skipped_told ∙ count_in (items ++ Tells r ∷ []) (lines ++ e.line ∷ []) each;
           left_out = ap (map (λ (b : BadLine). b.why)) left_out_told ∙ reasons_of (items ++ Tells r ∷ []) (lines ++ e.line ∷ []) each;
+          files = ap (map (λ (mark : FileMark). mark.name)) files_told ∙ names_of_marks (items ++ Tells r ∷ []) (lines ++ e.line ∷ []) each;
         };
         messages = messages_now ∙ ap message_names (sym (events_in-tells items r));
         on_lines = lines_told;
@@ -363,7 +407,7 @@ module _ (items : List LogItem) (lines : List ℕ) (old new : PartialLog) (r : N
         before = all_of (λ d. d.line ≤ new.line)
             (All-weaker (λ d. d.line ≤ old.line) (λ d. d.line ≤ new.line) (λ d at. omega arith) log_events h.before) (omega arith);
         low = omega arith;
-        columns = n.columns ∙ h.columns ∙ sym (header_columns-more items (Tells r) refl);
+        columns = n.columns ∙ h.columns ∙ sym (header_columns-more items (Tells r));
         last = omega arith;
         senders = λ place.
             asides-more (λ r. r.from) events r old.senders new.senders h.senders
@@ -371,22 +415,31 @@ module _ (items : List LogItem) (lines : List ℕ) (old new : PartialLog) (r : N
             ∙ ap (λ (events : List NamedEvent). sender_of_event events place) (sym (events_in-tells items r));
         skipped = skipped_told;
         left_out = left_out_told;
+        sent = subst (AreMarked new.sent) (sym n.pushed) (marked-more old.sent new.sent log_events e n.kept n.marks h.sent);
+        files = files_told;
+        marks = subst (All (λ (mark : FileMark). mark.line ≤ new.line)) (sym n.files)
+            (All-weaker (λ (mark : FileMark). mark.line ≤ old.line) (λ (mark : FileMark). mark.line ≤ new.line) (λ mark at. omega arith) old.files h.marks);
+        at_start = n.at_start ∙ sym (at_start-more items (Tells r));
       }
 
--- one more record that tells of no event and names no columns, with what it asks or that it was or is left out, and nothing else
+-- one more record that tells of no event, with the columns that it names, what it asks, the file that it begins or that it was or is left out,
+-- and nothing else
 pub record AddsAside (items : List LogItem) (lines : List ℕ) (old new : PartialLog) (item : LogItem) : Type 0 where
   pub log : new.log ≡ old.log
   pub nodes : new.nodes ≡ old.nodes
   pub messages : new.messages ≡ old.messages
   pub labels : new.labels ≡ old.labels
   pub senders : new.senders ≡ old.senders
+  pub sent : new.sent ≡ old.sent
   pub questions : map plain_asked new.questions.items ≡ questions_in (items ++ item ∷ [])
   pub next : IsNextLine old new.line
-  pub columns : new.columns ≡ old.columns
+  pub columns : new.columns ≡ columns_then old.columns item
   pub skipped : new.skipped ≡ skipped_in (items ++ item ∷ []) (lines ++ new.line ∷ [])
   pub left_out : new.left_out.items ≡ bad_lines_in (items ++ item ∷ []) (lines ++ new.line ∷ [])
+  pub files : new.files ≡ marks_in (items ++ item ∷ []) (lines ++ new.line ∷ [])
+  pub marks : All (λ mark. mark.line ≤ new.line) new.files
+  pub at_start : new.at_start ≡ is_some (if_file item)
   pub no_event : events_in (item ∷ []) ≡ []
-  pub no_columns : header_columns (item ∷ []) ≡ None
   pub tells_nothing : is_telling item ≡ false
 
 module _ (items : List LogItem) (lines : List ℕ) (old new : PartialLog) (item : LogItem) (h : IsPartialLog items lines old) (n : AddsAside items lines old new item) where
@@ -395,11 +448,13 @@ module _ (items : List LogItem) (lines : List ℕ) (old new : PartialLog) (item 
   other = record {
     log = old.log;
     nodes = old.nodes;
+    message_names = old.messages;
     messages = length old.messages;
     labels = old.labels;
     questions = new.questions;
     skipped = new.skipped;
     left_out = new.left_out;
+    files = new.files;
   }
 
   is_other : text_of new ≡ other
@@ -407,11 +462,13 @@ module _ (items : List LogItem) (lines : List ℕ) (old new : PartialLog) (item 
       λ i. record {
         log = n.log i;
         nodes = n.nodes i;
+        message_names = n.messages i;
         messages = length (n.messages i);
         labels = n.labels i;
         questions = new.questions;
         skipped = new.skipped;
         left_out = new.left_out;
+        files = new.files;
       }
 
   log-other : IsRawLogOf (events_in items) other
@@ -453,6 +510,7 @@ module _ (items : List LogItem) (lines : List ℕ) (old new : PartialLog) (item 
           questions = n.questions;
           skipped = ap skipped_count n.skipped ∙ count_in (items ++ item ∷ []) (lines ++ new.line ∷ []) each;
           left_out = ap (map (λ (b : BadLine). b.why)) n.left_out ∙ reasons_of (items ++ item ∷ []) (lines ++ new.line ∷ []) each;
+          files = ap (map (λ (mark : FileMark). mark.name)) n.files ∙ names_of_marks (items ++ item ∷ []) (lines ++ new.line ∷ []) each;
         };
         messages = n.messages ∙ h.messages ∙ ap message_names (sym same_events);
         on_lines = subst (λ (text : LogText). map (λ e. e.line) text.log.events ≡ event_lines (items ++ item ∷ []) (lines ++ new.line ∷ [])) (sym is_other) lines_kept;
@@ -460,14 +518,29 @@ module _ (items : List LogItem) (lines : List ℕ) (old new : PartialLog) (item 
         ends = sym (last_of-push 0 lines new.line);
         before = subst (λ (text : LogText). All (λ e. e.line ≤ new.line) text.log.events) (sym is_other) before_all;
         low = omega arith;
-        columns = n.columns ∙ h.columns ∙ sym (header_columns-more items item n.no_columns);
+        columns = n.columns ∙ ap (λ (columns : Option Columns). columns_then columns item) h.columns ∙ sym (header_columns-more items item);
         last = omega arith;
         senders = λ place.
             ap (λ senders. label_at senders place) n.senders ∙ h.senders place
             ∙ ap (λ (events : List NamedEvent). sender_of_event events place) (sym same_events);
         skipped = n.skipped;
         left_out = n.left_out;
+        sent = subst (λ (sent : SentMarks). AreMarked sent new.log.events) (sym n.sent)
+            (subst (λ (text : LogText). AreMarked old.sent text.log.events) (sym is_other) h.sent);
+        files = n.files;
+        marks = n.marks;
+        at_start = n.at_start ∙ sym (at_start-more items item);
       }
+
+-- one more record that begins no file
+module _ (items : List LogItem) (lines : List ℕ) (old : PartialLog) (item : LogItem) (line : ℕ) (h : IsPartialLog items lines old) where
+  pub files_kept : if_file item ≡ None → old.files ≡ marks_in (items ++ item ∷ []) (lines ++ line ∷ [])
+  files_kept other = h.files ∙ sym (marks-same items lines item line other h.one_each)
+
+  pub marks_kept : IsNextLine old line → All (λ (mark : FileMark). mark.line ≤ line) old.files
+  marks_kept next =
+      let rises = next.rises in
+      All-weaker (λ (mark : FileMark). mark.line ≤ old.line) (λ (mark : FileMark). mark.line ≤ line) (λ mark at. omega arith) old.files h.marks
 
 -- one more question
 module _ (items : List LogItem) (lines : List ℕ) (old new : PartialLog) (question : LogQuestion) (h : IsPartialLog items lines old) where
@@ -486,7 +559,7 @@ module _ (items : List LogItem) (lines : List ℕ) (old new : PartialLog) (quest
 -- one more record that was left out
 module _ (items : List LogItem) (lines : List ℕ) (old : PartialLog) (line : ℕ) (h : IsPartialLog items lines old) (next : IsNextLine old line) where
   abbrev more : PartialLog
-  more = record old { skipped = Some (with_skip old.skipped line); line = line }
+  more = record old { skipped = Some (with_skip old.skipped line); line = line; at_start = false }
 
   skipped_all : more.skipped ≡ skipped_in (items ++ Skips ∷ []) (lines ++ line ∷ [])
   skipped_all =
@@ -503,13 +576,16 @@ module _ (items : List LogItem) (lines : List ℕ) (old : PartialLog) (line : �
     messages = refl;
     labels = refl;
     senders = refl;
+    sent = refl;
     questions = asked_as_before;
     next = next;
     columns = refl;
     skipped = skipped_all;
     left_out = h.left_out ∙ sym (bad_lines-same items lines Skips line refl h.one_each);
+    files = files_kept items lines old Skips line h refl;
+    marks = marks_kept items lines old Skips line h next;
+    at_start = refl;
     no_event = refl;
-    no_columns = refl;
     tells_nothing = refl;
   }
 
@@ -526,45 +602,72 @@ module _ (items : List LogItem) (lines : List ℕ) (old : PartialLog) (b : BadLi
   failed_left_out left_out pushed =
       pushed ∙ ap (λ (bs : List BadLine). bs ++ b ∷ []) h.left_out ∙ sym (bad_lines-more items lines (Fails b.why) b.line h.one_each)
 
+-- a record that asks nothing and isn't left out
+module _ (items : List LogItem) (lines : List ℕ) (old : PartialLog) (item : LogItem) (line : ℕ) (h : IsPartialLog items lines old) where
+  plain_questions : if_asked item ≡ None → map plain_asked old.questions.items ≡ questions_in (items ++ item ∷ [])
+  plain_questions none =
+      h.held.questions ∙ sym (filter_map-append if_asked items (item ∷ []) ∙ ap (λ (o : Option Asked). questions_in items ++ cons_option o []) none
+      ∙ append-nil (questions_in items))
+
+  plain_skipped : is_skip item ≡ false → old.skipped ≡ skipped_in (items ++ item ∷ []) (lines ++ line ∷ [])
+  plain_skipped other = h.skipped ∙ ap skipped_on (sym (lines_where-same is_skip items lines item line other h.one_each))
+
+  plain_left_out : if_reason item ≡ None → old.left_out.items ≡ bad_lines_in (items ++ item ∷ []) (lines ++ line ∷ [])
+  plain_left_out none = h.left_out ∙ sym (bad_lines-same items lines item line none h.one_each)
+
 -- a header, and nothing else
-module _ (lines : List ℕ) (old : PartialLog) (columns : Columns) (line : ℕ) (h : IsPartialLog [] lines old) (next : IsNextLine old line) where
+module _ (items : List LogItem) (lines : List ℕ) (old : PartialLog) (columns : Columns) (line : ℕ) (h : IsPartialLog items lines old) (next : IsNextLine old line) where
   abbrev headed : PartialLog
-  headed = record old { line = line; columns = Some columns }
+  headed = record old { line = line; columns = Some columns; at_start = false }
 
-  headed_lines : (lines : List ℕ) → length lines ≡ 0 → map (λ e. e.line) old.log.events ≡ event_lines [] lines
-      → map (λ e. e.line) old.log.events ≡ event_lines (Names columns ∷ []) (lines ++ line ∷ [])
-  headed_lines [] none on_lines = on_lines
-  headed_lines (l ∷ lines) none on_lines = absurd (omega (arith, none))
+  pub is_headed : IsPartialLog (items ++ Names columns ∷ []) (lines ++ line ∷ []) headed
+  is_headed = is_aside-more items lines old headed (Names columns) h record {
+    log = refl;
+    nodes = refl;
+    messages = refl;
+    labels = refl;
+    senders = refl;
+    sent = refl;
+    questions = plain_questions items lines old (Names columns) line h refl;
+    next = next;
+    columns = refl;
+    skipped = plain_skipped items lines old (Names columns) line h refl;
+    left_out = plain_left_out items lines old (Names columns) line h refl;
+    files = files_kept items lines old (Names columns) line h refl;
+    marks = marks_kept items lines old (Names columns) line h next;
+    at_start = refl;
+    no_event = refl;
+    tells_nothing = refl;
+  }
 
-  headed_skipped : (lines : List ℕ) → length lines ≡ 0 → old.skipped ≡ skipped_in [] lines → old.skipped ≡ skipped_in (Names columns ∷ []) (lines ++ line ∷ [])
-  headed_skipped [] none skipped = skipped
-  headed_skipped (l ∷ lines) none skipped = absurd (omega (arith, none))
+-- a file mark, and nothing else
+module _ (items : List LogItem) (lines : List ℕ) (old : PartialLog) (name : List ℕ) (line : ℕ) (h : IsPartialLog items lines old) (next : IsNextLine old line) where
+  abbrev mark : FileMark
+  mark = record { name = name; line = line }
 
-  headed_left_out : (lines : List ℕ) → length lines ≡ 0 → old.left_out.items ≡ bad_lines_in [] lines
-      → old.left_out.items ≡ bad_lines_in (Names columns ∷ []) (lines ++ line ∷ [])
-  headed_left_out [] none left_out = left_out
-  headed_left_out (l ∷ lines) none left_out = absurd (omega (arith, none))
+  abbrev begun : List FileMark → PartialLog
+  begun files = record old { line = line; columns = None; files = files; at_start = true }
 
-  pub is_headed : IsPartialLog (Names columns ∷ []) (lines ++ line ∷ []) headed
-  is_headed =
-      let rises = next.rises in
-      let last = next.last in
-      let before = h.last in
-      let none = h.one_each in
-      record {
-        held = record { log = h.held.log; questions = h.held.questions; skipped = h.held.skipped; left_out = h.held.left_out };
-        messages = h.messages;
-        on_lines = headed_lines lines h.one_each h.on_lines;
-        one_each = length-append lines (line ∷ []) ∙ ap (λ n. n + 1) none;
-        ends = sym (last_of-push 0 lines line);
-        before = All-weaker (λ e. e.line ≤ old.line) (λ e. e.line ≤ line) (λ e at. omega arith) old.log.events h.before;
-        low = omega arith;
-        columns = refl;
-        last = omega arith;
-        senders = h.senders;
-        skipped = headed_skipped lines h.one_each h.skipped;
-        left_out = headed_left_out lines h.one_each h.left_out;
-      }
+  pub is_begun : (files : List FileMark) → files ≡ old.files ++ mark ∷ [] → IsPartialLog (items ++ Begins name ∷ []) (lines ++ line ∷ []) (begun files)
+  is_begun files pushed = is_aside-more items lines old (begun files) (Begins name) h record {
+    log = refl;
+    nodes = refl;
+    messages = refl;
+    labels = refl;
+    senders = refl;
+    sent = refl;
+    questions = plain_questions items lines old (Begins name) line h refl;
+    next = next;
+    columns = refl;
+    skipped = plain_skipped items lines old (Begins name) line h refl;
+    left_out = plain_left_out items lines old (Begins name) line h refl;
+    files = pushed ∙ ap (λ (marks : List FileMark). marks ++ mark ∷ []) h.files ∙ sym (marks-more items lines (Begins name) line h.one_each);
+    marks = subst (All (λ (mark : FileMark). mark.line ≤ line)) (sym pushed)
+        (All-push (λ (mark : FileMark). mark.line ≤ line) old.files mark (marks_kept items lines old (Begins name) line h next) (omega arith));
+    at_start = refl;
+    no_event = refl;
+    tells_nothing = refl;
+  }
 
 -- named events are numbered
 pub numbered_of : (nodes messages : List (List ℕ)) (log_events : List LogEvent) → length nodes ≤ MAX_LOG_NODES

@@ -20,8 +20,9 @@ use Rattle.hlc_log.specs.declared.log_event.LogKind.TheVariants.{Local, Outside,
 use Rattle.hlc_causality.specs.declared.event_rule.TheConstants.{MAX_FLOOR_C}
 use Rattle.hlc_log.specs.Events.{IsInRange, IsNumbered, IsSmallCarried}
 use Rattle.hlc_log_text.specs.BadColumn.{bad_of_carried}
-use Rattle.hlc_log_text.specs.Columns.{arranged_by, carried_after_word, carried_by, carried_first, carried_for, carried_second, columns_of, from_by, from_in, if_small, is_complete, names_sender}
+use Rattle.hlc_log_text.specs.Columns.{arranged_in, carried_first, carried_for, carried_second, columns_of, extras_after_word, extras_in, extras_with, from_in, if_small, is_complete, names_sender, seq_in}
 use Rattle.hlc_log_text.specs.declared.columns.Columns.{Columns}
+use Rattle.hlc_log_text.specs.declared.extras.Extras.{Extras}
 use Rattle.hlc_log_text.specs.declared.bad_log.BadLog.{BadLog}
 use Rattle.hlc_log_text.specs.declared.bad_log.BadLog.TheVariants as bad
 use Rattle.hlc_log_text.specs.declared.fault.LogTextFault.{LogTextFault}
@@ -30,11 +31,13 @@ use Rattle.hlc_log_text.specs.declared.log_column.LogColumn.{LogColumn}
 use Rattle.hlc_log_text.specs.declared.log_word.LogWord.{LogWord}
 use Rattle.hlc_log_text.specs.declared.log_word.LogWord.TheVariants as word
 use Rattle.hlc_log_text.specs.declared.record_head.RecordHead.{RecordHead}
-use Rattle.hlc_log_text.specs.LogItem.{Asks, Fails, LogItem, Names, Skips, Tells, asks, begins_as_skip, carry, columns_after, events_in, header_item, is_header, item_after, item_after_word, item_from, item_in, other_item, skip_item, tells, unless_missing}
+use Rattle.hlc_log_text.specs.LogItem.{Asks, Begins, Fails, LogItem, Names, Skips, Tells, asks, begins_as_skip, columns_after, events_in, extend, header_item, is_header, item_after, item_after_word, item_by_file, item_from, item_in, other_item, skip_item, tells, unless_missing, unless_sent}
 use Rattle.hlc_log_text.specs.LogText.{apart_count, kind_word, message_names, senders_of, unnamed_in, with_names}
+use Rattle.hlc_log_text.specs.FileMarks.{begun_file}
 use Rattle.hlc_log_text.specs.Missing.{missing_by}
 use Rattle.hlc_log_text.specs.LogWord.{has_fields_of, log_word_of}
-use Rattle.hlc_log_text.specs.NamedEvent.{NamedEvent, assumed_reading, carrying, has_good_names, head_by, head_from, head_of, head_or_bad, head_with, if_reading, label_of, message_place, named_event_from, named_event_of, reading_of, reading_with, restart_head, stamp_or_zero, stamp_told, told_by, tolerated, without_asides}
+use Rattle.hlc_log_text.specs.NamedEvent.{NamedEvent, assumed_reading, has_good_names, head_by, head_from, head_of, head_or_bad, head_with, if_reading, label_of, message_place, named_event_from, named_event_of, reading_of, reading_with, restart_head, stamp_or_zero, stamp_told, told_by, tolerated, without_asides, with_extras, sends_again}
+use Rattle.hlc_log_text.specs.FaultRule.{leaves_sent}
 use Rattle.hlc_log_text.specs.PartialLog.{SaysAfter}
 use Rattle.hlc_log_text.specs.Question.{Asked, asked_of}
 use Rattle.hlc_log_text.specs.ReadLog.{ExplainsFault, IsReadWhole, SayAfter, SayItems}
@@ -183,7 +186,7 @@ asks_no_event (Err why) event is = cc
 asks_no_event (Ok asked) event is = cc
 
 other_no_event : (fields : Fields) (event : NamedEvent) → other_item fields ≡ Ok (Tells event) → ⊥
-other_no_event fields event is = by_word (begins_as_skip fields) is where
+other_no_event fields event is = by_file (begun_file fields) is where
   by_count : (test : Bool) → (let r : Result LogItem BadLog = cond test (Ok Skips) (Err bad.Fields) in r) ≡ Ok (Tells event) → ⊥
   by_count true is = cc
   by_count false is = cc
@@ -191,6 +194,10 @@ other_no_event fields event is = by_word (begins_as_skip fields) is where
   by_word : (test : Bool) → cond test (skip_item fields) (asks (asked_of fields)) ≡ Ok (Tells event) → ⊥
   by_word true is = by_count (length fields == 1) is
   by_word false is = asks_no_event (asked_of fields) event is
+
+  by_file : (file : Option (List ℕ)) → item_by_file file fields ≡ Ok (Tells event) → ⊥
+  by_file None is = by_word (begins_as_skip fields) is
+  by_file (Some name) is = cc
 
 event_in_range : (rules : LogRules) (from : Option (List ℕ)) (word : Option LogWord) (fields : Fields) (event : NamedEvent) → item_after_word rules from word fields ≡ Ok (Tells event)
     → IsPlainInRange event
@@ -200,7 +207,10 @@ event_in_range rules from (Some w) fields event is =
     let made = event_head rules.form w from fields (head_of rules w from fields) event told in
     (head_is_in_range rules w from fields event.head made.0, made.1)
 
--- what is told of a carried stamp leaves room above it
+-- what is told of a carried stamp leaves room above it, whatever the seq
+abbrev AreSmallExtras : Result Extras LogColumn → Type 0
+AreSmallExtras told = IfOk told (λ extras. IsSmallCarried extras.carried)
+
 abbrev IsSmallTold : Result (Option Pair) LogColumn → Type 0
 IsSmallTold told = IfOk told IsSmallCarried
 
@@ -227,28 +237,34 @@ carried_for_small form columns word.Receive fields =
       by_test column true false stamp = tt
       by_test column false is_needed stamp = if_small_told column stamp
 
-carried_by_small : (form : StampForm) (columns : Option Columns) (fields : Fields) → IsSmallTold (carried_by form columns fields)
-carried_by_small form None fields = tt
-carried_by_small form (Some columns) fields = by_word (log_word_of (field_of fields 0)) where
-  by_word : (w : Option LogWord) → IsSmallTold (carried_after_word form columns w fields)
-  by_word None = tt
-  by_word (Some w) = carried_for_small form columns w fields
+extras_with_small : (carried : Result (Option Stamp) LogColumn) (seq : Option ℕ) → IsSmallTold carried → AreSmallExtras (extras_with carried seq)
+extras_with_small (Err column) seq small = tt
+extras_with_small (Ok carried) None small = tt
+extras_with_small (Ok carried) (Some seq) small = small
 
-carry_in_range : (carried : Result (Option Pair) LogColumn) (said : Result LogItem BadLog) → IsSmallTold carried
-    → ((event : NamedEvent) → said ≡ Ok (Tells event) → IsPlainInRange event) → (event : NamedEvent) → carry carried said ≡ Ok (Tells event)
+extras_in_small : (form : StampForm) (columns : Columns) (fields : Fields) → AreSmallExtras (extras_in form columns fields)
+extras_in_small form columns fields = by_word (log_word_of (field_of fields 0)) where
+  by_word : (w : Option LogWord) → AreSmallExtras (extras_after_word form columns w fields)
+  by_word None = tt
+  by_word (Some w) = extras_with_small (carried_for form columns w fields) (seq_in columns fields) (carried_for_small form columns w fields)
+
+plain_in_range : (event : NamedEvent) → IsPlainInRange event → IsNamedInRange event
+unfolding IsNamedInRange
+plain_in_range event h = (h.0, subst IsSmallCarried (sym h.1) tt)
+
+extend_in_range : (extras : Result Extras LogColumn) (said : Result LogItem BadLog) → AreSmallExtras extras
+    → ((event : NamedEvent) → said ≡ Ok (Tells event) → IsPlainInRange event) → (event : NamedEvent) → extend extras said ≡ Ok (Tells event)
     → IsNamedInRange event
 unfolding IsNamedInRange
-carry_in_range (Err column) said small plain event is = absurd (cc)
-carry_in_range (Ok None) said small plain event is =
-    let h = plain event is in
-    (h.0, subst IsSmallCarried (sym h.1) tt)
-carry_in_range (Ok (Some stamp)) (Err why) small plain event is = absurd (cc)
-carry_in_range (Ok (Some stamp)) (Ok (Asks asked)) small plain event is = absurd (cc)
-carry_in_range (Ok (Some stamp)) (Ok (Names columns)) small plain event is = absurd (cc)
-carry_in_range (Ok (Some stamp)) (Ok Skips) small plain event is = absurd (cc)
-carry_in_range (Ok (Some stamp)) (Ok (Fails why)) small plain event is = absurd (cc)
-carry_in_range (Ok (Some stamp)) (Ok (Tells inner)) small plain event is =
-    let same : carrying (Some stamp) inner ≡ event = cc in
+extend_in_range (Err column) said small plain event is = absurd (cc)
+extend_in_range (Ok extras) (Err why) small plain event is = absurd (cc)
+extend_in_range (Ok extras) (Ok (Asks asked)) small plain event is = absurd (cc)
+extend_in_range (Ok extras) (Ok (Names columns)) small plain event is = absurd (cc)
+extend_in_range (Ok extras) (Ok Skips) small plain event is = absurd (cc)
+extend_in_range (Ok extras) (Ok (Begins name)) small plain event is = absurd (cc)
+extend_in_range (Ok extras) (Ok (Fails why)) small plain event is = absurd (cc)
+extend_in_range (Ok extras) (Ok (Tells inner)) small plain event is =
+    let same : with_extras extras inner ≡ event = cc in
     subst (λ (e : NamedEvent). IsHeadInRange e.head × IsSmallCarried e.carried) same ((plain inner refl).0, small)
 
 -- a header tells of no event
@@ -258,21 +274,46 @@ header_no_event form columns event is = by_test (is_complete form columns) is wh
   by_test false is = cc
   by_test true is = cc
 
+-- a record that tells of an event, and of no message that is sent already, tells of it in any case
+said_anyway : (is_bad : Bool) (events : List NamedEvent) (said : Result LogItem BadLog) (event : NamedEvent) → unless_sent is_bad events said ≡ Ok (Tells event)
+    → said ≡ Ok (Tells event)
+said_anyway false events said event is = is
+said_anyway true events (Err why) event is = is
+said_anyway true events (Ok (Asks asked)) event is = is
+said_anyway true events (Ok (Names columns)) event is = is
+said_anyway true events (Ok Skips) event is = is
+said_anyway true events (Ok (Begins name)) event is = is
+said_anyway true events (Ok (Fails why)) event is = is
+said_anyway true events (Ok (Tells told)) event is = by_test (sends_again events told) is where
+  by_test : (test : Bool) → (let r : Result LogItem BadLog = cond test (Err bad.SentTwice) (Ok (Tells told)) in r) ≡ Ok (Tells event)
+      → (let r : Result LogItem BadLog = Ok (Tells told) in r) ≡ Ok (Tells event)
+  by_test true is = absurd (cc)
+  by_test false is = is
+
 after_in_range : (rules : LogRules) (before : List LogItem) (fields : Fields) (event : NamedEvent) → item_after rules before fields ≡ Ok (Tells event)
     → IsNamedInRange event
 after_in_range rules before fields event is =
     by_header (is_header rules.syntax before fields) (missing_by rules.syntax rules.form fields) (columns_after rules before) is where
-      by_missing : (missing : Option LogColumn) (columns : Option Columns) → unless_missing missing (item_in rules columns fields) ≡ Ok (Tells event)
+      is_bad : Bool
+      is_bad = leaves_sent rules.faults rules.resent
+
+      by_missing : (missing : Option LogColumn) (columns : Option Columns)
+          → unless_missing missing (unless_sent is_bad (events_in before) (item_in rules columns fields)) ≡ Ok (Tells event)
           → IsNamedInRange event
       by_missing (Some column) columns is = absurd (cc)
-      by_missing None columns is =
-          let from = from_by columns fields in
-          let placed = arranged_by rules.form columns fields in
-          carry_in_range (carried_by rules.form columns fields) (item_from rules from placed) (carried_by_small rules.form columns fields)
-          (event_in_range rules from (log_word_of (field_of placed 0)) placed) event is
+      by_missing None None is =
+          plain_in_range event (event_in_range rules None (log_word_of (field_of fields 0)) fields event
+          (said_anyway is_bad (events_in before) (item_in rules None fields) event is))
+      by_missing None (Some columns) is =
+          let from = from_in columns fields in
+          let placed = arranged_in rules.form columns fields in
+          extend_in_range (extras_in rules.form columns fields) (item_from rules from placed) (extras_in_small rules.form columns fields)
+          (event_in_range rules from (log_word_of (field_of placed 0)) placed) event
+          (said_anyway is_bad (events_in before) (item_in rules (Some columns) fields) event is)
 
       by_header : (test : Bool) (missing : Option LogColumn) (columns : Option Columns)
-          → cond test (header_item rules.form (columns_of fields)) (unless_missing missing (item_in rules columns fields)) ≡ Ok (Tells event)
+          → cond test (header_item rules.form (columns_of fields))
+          (unless_missing missing (unless_sent is_bad (events_in before) (item_in rules columns fields))) ≡ Ok (Tells event)
           → IsNamedInRange event
       by_header true missing columns is = absurd (header_no_event rules.form (columns_of fields) event is)
       by_header false missing columns is = by_missing missing columns is
@@ -290,6 +331,7 @@ all_after rules before [] (item ∷ items) say = absurd say
 all_after rules before (fields ∷ records) [] say = absurd say
 all_after rules before (fields ∷ records) (Asks asked ∷ items) say = all_after rules (before ++ Asks asked ∷ []) records items say.1
 all_after rules before (fields ∷ records) (Skips ∷ items) say = all_after rules (before ++ Skips ∷ []) records items say.1
+all_after rules before (fields ∷ records) (Begins name ∷ items) say = all_after rules (before ++ Begins name ∷ []) records items say.1
 all_after rules before (fields ∷ records) (Names columns ∷ items) say = all_after rules (before ++ Names columns ∷ []) records items say.1
 all_after rules before (fields ∷ records) (Fails why ∷ items) say = all_after rules (before ++ Fails why ∷ []) records items say.1
 all_after rules before (fields ∷ records) (Tells event ∷ items) say =

@@ -13,6 +13,8 @@ bad_log_word bad.Fields = codes "fields"
 bad_log_word (bad.Number column) = codes "number"
 bad_log_word bad.Line = codes "number"
 bad_log_word (bad.Name column) = codes "name"
+bad_log_word bad.SentTwice = codes "sent-twice"
+bad_log_word bad.Cycle = codes "cycle"
 bad_log_word bad.Node = codes "node"
 bad_log_word bad.Quote = codes "quote"
 
@@ -25,5 +27,7 @@ bad_log_column bad.Fields = None
 bad_log_column (bad.Number column) = Some column
 bad_log_column bad.Line = None
 bad_log_column (bad.Name column) = Some column
+bad_log_column bad.SentTwice = None
+bad_log_column bad.Cycle = None
 bad_log_column bad.Node = None
 bad_log_column bad.Quote = None

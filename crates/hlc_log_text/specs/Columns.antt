@@ -3,9 +3,11 @@ use Rattle.std.specs.Prelude.{◌==◌, ◌&&◌, ℕ, Bool, false, List, [], �
 use Rattle.std.specs.List.{position_or_len}
 use Rattle.hlc_causality.specs.declared.event_rule.TheConstants.{MAX_FLOOR_C}
 use Rattle.hlc_stamp.specs.declared.stamp.Stamp.{Stamp}
+use Rattle.hlc_csv.specs.Number.{number_of}
 use Rattle.hlc_csv.specs.Rows.{Fields, field_of}
 use Rattle.hlc_log_text.specs.BadColumn.{bad_of_carried}
 use Rattle.hlc_log_text.specs.declared.columns.Columns.{Columns}
+use Rattle.hlc_log_text.specs.declared.extras.Extras.{Extras}
 use Rattle.hlc_log_text.specs.declared.log_column.LogColumn.{LogColumn}
 use Rattle.hlc_log_text.specs.declared.log_column.LogColumn.TheVariants as column
 use Rattle.hlc_log_text.specs.declared.log_word.LogWord.{LogWord}
@@ -40,13 +42,14 @@ columns_of header = record {
   carried_c = column_in header (column_name column.CarriedC);
   message = column_in header (column_name column.Message);
   from = column_in header (column_name column.From);
+  seq = column_in header (column_name column.Seq);
   label = column_in header (column_name column.Label);
 }
 
 -- all columns, in the order of `all_columns`
 abbrev pub all_columns_in_place : Columns
 all_columns_in_place = record {
-  count = 12;
+  count = 13;
   node = 1;
   reading = 2;
   l = 3;
@@ -57,7 +60,8 @@ all_columns_in_place = record {
   carried = 8;
   carried_l = 9;
   carried_c = 10;
-  label = 11;
+  seq = 11;
+  label = 12;
 }
 
 -- the columns of a log in a syntax, whose header names these, if it has one: records of JSON lines have all
@@ -113,10 +117,9 @@ abbrev pub arranged_after_word : StampForm → Columns → Option LogWord → Fi
 arranged_after_word form columns None fields = fields
 arranged_after_word form columns (Some w) fields = arranged form columns w fields
 
--- the fields of a record in the places that they have in a log without a header, if columns are named
-abbrev pub arranged_by : StampForm → Option Columns → Fields → Fields
-arranged_by form None fields = fields
-arranged_by form (Some columns) fields = arranged_after_word form columns (log_word_of (field_of fields 0)) fields
+-- the fields of a record in the places that they have in a log without a header
+abbrev pub arranged_in : StampForm → Columns → Fields → Fields
+arranged_in form columns fields = arranged_after_word form columns (log_word_of (field_of fields 0)) fields
 
 -- the fields of the stamp that a received message carried; the second is empty if a stamp is one field
 abbrev pub carried_first : StampForm → Columns → Fields → List ℕ
@@ -159,15 +162,29 @@ carried_for form columns word.Receive fields =
     (carried_first form columns fields) (carried_second form columns fields)
 carried_for form columns word.Restart fields = Ok None
 
-abbrev pub carried_after_word : StampForm → Columns → Option LogWord → Fields → Result (Option Stamp) LogColumn
-carried_after_word form columns None fields = Ok None
-carried_after_word form columns (Some w) fields = carried_for form columns w fields
+-- by what the event of a record stands among those of its node, if that is well written: by 0 if its field is empty
+abbrev pub seq_in : Columns → Fields → Option ℕ
+seq_in columns fields = if length (field_of fields columns.seq) == 0 then Some 0 else number_of (field_of fields columns.seq)
 
--- where no columns are named nothing is told, and there is no column `from`
-abbrev pub from_by : Option Columns → Fields → Option (List ℕ)
-from_by None fields = None
-from_by (Some columns) fields = from_in columns fields
+-- what a record tells of a carried stamp and of its seq, or the first column of these that is badly written
+abbrev pub with_seq : Option Stamp → Option ℕ → Result Extras LogColumn
+with_seq carried None = Err column.Seq
+with_seq carried (Some seq) = Ok (record { carried = carried; seq = seq })
 
-abbrev pub carried_by : StampForm → Option Columns → Fields → Result (Option Stamp) LogColumn
-carried_by form None fields = Ok None
-carried_by form (Some columns) fields = carried_after_word form columns (log_word_of (field_of fields 0)) fields
+abbrev pub extras_with : Result (Option Stamp) LogColumn → Option ℕ → Result Extras LogColumn
+extras_with (Err column) seq = Err column
+extras_with (Ok carried) seq = with_seq carried seq
+
+abbrev pub extras_for : StampForm → Columns → LogWord → Fields → Result Extras LogColumn
+extras_for form columns w fields = extras_with (carried_for form columns w fields) (seq_in columns fields)
+
+-- what a record tells that has no such columns
+abbrev pub no_extras : Extras
+no_extras = record { carried = None; seq = 0 }
+
+abbrev pub extras_after_word : StampForm → Columns → Option LogWord → Fields → Result Extras LogColumn
+extras_after_word form columns None fields = Ok no_extras
+extras_after_word form columns (Some w) fields = extras_for form columns w fields
+
+abbrev pub extras_in : StampForm → Columns → Fields → Result Extras LogColumn
+extras_in form columns fields = extras_after_word form columns (log_word_of (field_of fields 0)) fields

@@ -16,6 +16,7 @@ column_name column.From = codes "from"
 column_name column.Carried = codes "carried"
 column_name column.CarriedL = codes "carried_l"
 column_name column.CarriedC = codes "carried_c"
+column_name column.Seq = codes "seq"
 column_name column.Label = codes "label"
 
 -- the column of a name
@@ -32,10 +33,11 @@ column_named name =
     else if bytes_eq name (codes "carried") then Some column.Carried
     else if bytes_eq name (codes "carried_l") then Some column.CarriedL
     else if bytes_eq name (codes "carried_c") then Some column.CarriedC
+    else if bytes_eq name (codes "seq") then Some column.Seq
     else if bytes_eq name (codes "label") then Some column.Label
     else None
 
 -- the columns in the order in which the records of JSON lines have them
 abbrev pub all_columns : List LogColumn
 all_columns = column.Kind ∷ column.Node ∷ column.Reading ∷ column.L ∷ column.C ∷ column.Stamp ∷ column.Message ∷ column.From ∷ column.Carried
-    ∷ column.CarriedL ∷ column.CarriedC ∷ column.Label ∷ []
+    ∷ column.CarriedL ∷ column.CarriedC ∷ column.Seq ∷ column.Label ∷ []

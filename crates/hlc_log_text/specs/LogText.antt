@@ -14,7 +14,7 @@ use Rattle.hlc_log_text.specs.declared.log_word.LogWord.{LogWord}
 use Rattle.hlc_log_text.specs.declared.log_word.LogWord.TheVariants as word
 use Rattle.hlc_log_text.specs.Names.{first_mentions}
 use Rattle.hlc_log_text.specs.Labels.{label_at}
-use Rattle.hlc_log_text.specs.LogItem.{LogItem, events_in, questions_in, reasons_in}
+use Rattle.hlc_log_text.specs.LogItem.{LogItem, events_in, file_names_in, questions_in, reasons_in}
 use Rattle.hlc_log_text.specs.NamedEvent.{NamedEvent, without_asides}
 use Rattle.hlc_log_text.specs.Question.{plain_asked}
 use Rattle.hlc_log_text.specs.Skipped.{skip_count, skipped_count}
@@ -47,6 +47,7 @@ with_names nodes messages e = record {
   message = kind_message messages e.kind;
   from = None;
   carried = e.carried;
+  seq = e.seq;
   label = None;
 }
 
@@ -81,12 +82,14 @@ pub record IsRawLogOf (events : List NamedEvent) (text : LogText) : Type 0 where
   pub labels : (place : ℕ) → label_at text.labels place ≡ label_of_event events place
   pub lines_rise : AllPairs (λ d e. d.line < e.line) text.log.events
 
--- so it has the events that records tell of, and the questions that they ask, in their order, and knows how many were left out, and why
+-- so it has the events that records tell of, the questions that they ask and the files that they begin, in their order, and knows how many were left
+-- out, and why
 pub record IsRawTextOf (items : List LogItem) (text : LogText) : Type 0 where
   pub log : IsRawLogOf (events_in items) text
   pub questions : map plain_asked text.questions.items ≡ questions_in items
   pub skipped : skipped_count text.skipped ≡ skip_count items
   pub left_out : map (λ b. b.why) text.left_out.items ≡ reasons_in items
+  pub files : map (λ mark. mark.name) text.files ≡ file_names_in items
 
 -- the node of a name among the names of a log's nodes, if it is one
 abbrev pub node_of : List (List ℕ) → Option (List ℕ) → Option NodeId
@@ -119,18 +122,21 @@ pub record IsLogOf (events : List NamedEvent) (text : LogText) : Type 0 where
   pub named : All (IsNamed text.nodes (message_names events)) raw
   pub apart : text.log.events ≡ apart_if (unnamed_in (message_names events)) (length (message_names events)) (senders_of text.nodes events) raw
   pub nodes : text.nodes ≡ node_names events
+  pub names : text.message_names ≡ message_names events
   pub messages : text.messages ≡ apart_count (unnamed_in (message_names events)) (length (message_names events)) (length raw)
   pub few_nodes : length text.nodes ≤ MAX_LOG_NODES
   pub few_messages : text.messages ≤ 2 * length text.log.events
   pub labels : (place : ℕ) → label_at text.labels place ≡ label_of_event events place
   pub lines_rise : AllPairs (λ d e. d.line < e.line) text.log.events
 
--- the text has the events that records tell of and the questions that they ask, in their order, and knows how many were left out, and why
+-- the text has the events that records tell of, the questions that they ask and the files that they begin, in their order, and knows how many were left
+-- out, and why
 pub record IsTextOf (items : List LogItem) (text : LogText) : Type 0 where
   pub log : IsLogOf (events_in items) text
   pub questions : map plain_asked text.questions.items ≡ questions_in items
   pub skipped : skipped_count text.skipped ≡ skip_count items
   pub left_out : map (λ b. b.why) text.left_out.items ≡ reasons_in items
+  pub files : map (λ mark. mark.name) text.files ≡ file_names_in items
 
 -- how many records a text has
 abbrev pub record_count : LogText → ℕ

@@ -1,5 +1,6 @@
 -- What the records of a log say.
-use Rattle.std.specs.Prelude.{◌==◌, ◌&&◌, ℕ, ◌+◌, ◌-◌, Bool, false, List, length, max, min, not, Option, Some, None, Result, Ok, Err, if◌then◌else◌, is_some, nat_le, option_map, slice_get, true, unwrap_or}
+use Rattle.std.specs.Prelude.{◌==◌, ◌&&◌, ℕ, ◌+◌, ◌-◌, Bool, false, List, bytes_eq, length, max, min, not, Option, Some, None, Result, Ok, Err, if◌then◌else◌, is_some, nat_le, option_map, slice_get, true, unwrap_or}
+use Rattle.std.specs.List.{list_any}
 use Rattle.std.specs.Option.{option_and_then}
 use Rattle.hlc_causality.specs.declared.event_rule.TheConstants.{MAX_FLOOR_C}
 use Rattle.hlc_stamp.specs.declared.limits.TheConstants.{MAX_READING}
@@ -7,10 +8,12 @@ use Rattle.hlc_stamp.specs.declared.stamp.Stamp.{Stamp}
 use Rattle.hlc_stamp.specs.Order.{Pair, zero_pair}
 use Rattle.hlc_csv.specs.Number.{number_of}
 use Rattle.hlc_csv.specs.Rows.{Fields, field_of}
+use Rattle.hlc_log_line.specs.declared.log_event.TheConstants.{MAX_NAME_LEN}
 use Rattle.hlc_log_text.specs.BadColumn.{bad_of_stamp}
 use Rattle.hlc_log_text.specs.Columns.{names_sender}
 use Rattle.hlc_log_text.specs.StampForms.{form_stamp, is_empty_stamp, stamp_field_count}
 use Rattle.hlc_log_text.specs.Units.{in_unit_of_l}
+use Rattle.hlc_log_text.specs.declared.extras.Extras.{Extras}
 use Rattle.hlc_log_text.specs.declared.log_rules.LogRules.{LogRules}
 use Rattle.hlc_log_text.specs.declared.stamp_form.StampForm.{StampForm}
 use Rattle.hlc_log_text.specs.declared.bad_log.BadLog.{BadLog}
@@ -20,7 +23,6 @@ use Rattle.hlc_log_text.specs.declared.log_column.LogColumn.TheVariants as colum
 use Rattle.hlc_log_text.specs.declared.log_word.LogWord.{LogWord}
 use Rattle.hlc_log_text.specs.declared.log_word.LogWord.TheVariants as word
 use Rattle.hlc_log_text.specs.declared.record_head.RecordHead.{RecordHead}
-use Rattle.hlc_log_text.specs.declared.record_head.TheConstants.{MAX_NAME_LEN}
 use Rattle.hlc_log_text.specs.LogWord.{has_fields_of, log_field_count}
 
 -- a number as a reading, which is n in the unit of l: the number has to be positive, and n such as a clock may read
@@ -129,43 +131,45 @@ head_of rules w from fields =
     then head_or_bad rules from fields (head_with rules w fields) (has_good_names rules.form w from fields)
     else Err bad.Fields
 
--- the first reason of a record that is bad for this one, and by its carried stamp, which is badly written in a column: that is a number, and the last
-abbrev pub before_carried : BadLog → (carried : LogColumn) → BadLog
-before_carried bad.Fields column = bad.Fields
-before_carried (bad.Number first) column = bad.Number first
-before_carried why column = bad.Number column
+-- the first reason of a record that is bad for this one, and because its carried stamp or its seq is badly written, in a column: these are numbers, and
+-- the last
+abbrev pub before_extras : BadLog → (extra : LogColumn) → BadLog
+before_extras bad.Fields column = bad.Fields
+before_extras (bad.Number first) column = bad.Number first
+before_extras why column = bad.Number column
 
--- the same with what the record tells of a carried stamp, or the column where that is badly written
-abbrev pub carried_head : Result RecordHead BadLog → Result (Option Pair) LogColumn → Result (RecordHead × Option Pair) BadLog
-carried_head (Ok head) (Ok carried) = Ok (head, carried)
-carried_head (Err why) (Ok carried) = Err why
-carried_head (Ok head) (Err column) = Err (bad.Number column)
-carried_head (Err why) (Err column) = Err (before_carried why column)
+-- the same with the stamp that the record tells as carried and its seq, or the column of these that is badly written
+abbrev pub head_with_extras : Result RecordHead BadLog → Result Extras LogColumn → Result (RecordHead × Extras) BadLog
+head_with_extras (Ok head) (Ok extras) = Ok (head, extras)
+head_with_extras (Err why) (Ok extras) = Err why
+head_with_extras (Ok head) (Err column) = Err (bad.Number column)
+head_with_extras (Err why) (Err column) = Err (before_extras why column)
 
-abbrev pub carried_head_of : LogRules → LogWord → (from : Option (List ℕ)) → Fields → Result (Option Pair) LogColumn → Result (RecordHead × Option Pair) BadLog
-carried_head_of rules w from fields carried = carried_head (head_of rules w from fields) carried
+abbrev pub whole_head_of : LogRules → LogWord → (from : Option (List ℕ)) → Fields → Result Extras LogColumn → Result (RecordHead × Extras) BadLog
+whole_head_of rules w from fields extras = head_with_extras (head_of rules w from fields) extras
 
 -- the label of a record of a word, if it has one: the one field more than the word has
 abbrev pub label_of : StampForm → LogWord → Fields → Option (List ℕ)
 label_of form w fields = slice_get fields (log_field_count form w)
 
 -- an event as a record of a log tells of it, with the names of its node and of its message, which is empty if the message has none, the name of
--- the node that a receive tells in place of that, the stamp that a received message carried, and its label, if it has them
+-- the node that a receive tells in place of that, the stamp that a received message carried, its seq, and its label, if it has them
 pub record NamedEvent : Type 0 where
   pub head : RecordHead
   pub node : List ℕ
   pub message : Option (List ℕ)
   pub from : Option (List ℕ)
   pub carried : Option Pair
+  pub seq : ℕ
   pub label : Option (List ℕ)
 
 -- it without what is kept aside: the name of the sending node, and its label
 abbrev pub without_asides : NamedEvent → NamedEvent
-without_asides e = record { head = e.head; node = e.node; message = e.message; from = None; carried = e.carried; label = None }
+without_asides e = record { head = e.head; node = e.node; message = e.message; from = None; carried = e.carried; seq = e.seq; label = None }
 
--- it with what its message carried
-abbrev pub carrying : Option Pair → NamedEvent → NamedEvent
-carrying carried e = record e { carried = carried }
+-- it with what its message carried, and its seq
+abbrev pub with_extras : Extras → NamedEvent → NamedEvent
+with_extras extras e = record e { carried = extras.carried; seq = extras.seq }
 
 -- the message's name, if a record of the word has one
 abbrev pub if_message : LogWord → List ℕ → Option (List ℕ)
@@ -186,7 +190,7 @@ if_sender word.Receive from message = if_named (names_sender from message) from
 if_sender word.Restart from message = None
 
 -- the event of a record with these names, the field of the column `from`, if there is such a column, and this label, which tells of nothing
--- carried; a local one has no message, nor has a restart
+-- carried and of no seq; a local one has no message, nor has a restart
 abbrev pub told_by : RecordHead → (node message : List ℕ) → (from : Option (List ℕ)) → Option (List ℕ) → NamedEvent
 told_by head node message from label = record {
   head = head;
@@ -194,6 +198,7 @@ told_by head node message from label = record {
   message = if_message head.word message;
   from = if_sender head.word from message;
   carried = None;
+  seq = 0;
   label = label;
 }
 
@@ -205,3 +210,20 @@ named_event_from form w from fields (Err why) = Err why
 -- the event of a record of a word, or the first reason for which it has none
 abbrev pub named_event_of : LogRules → LogWord → (from : Option (List ℕ)) → Fields → Result NamedEvent BadLog
 named_event_of rules w from fields = named_event_from rules.form w from fields (head_of rules w from fields)
+
+-- whether an event with a word and the name of its message sends the message of a name
+abbrev pub sends_name : (name : List ℕ) → LogWord → (message : Option (List ℕ)) → Bool
+sends_name name word.Send (Some message) = bytes_eq name message
+sends_name name _ _ = false
+
+-- whether one of some events does
+abbrev pub is_sent_by : List NamedEvent → (name : List ℕ) → Bool
+is_sent_by events name = list_any (λ event. sends_name name event.head.word event.message) events
+
+-- whether an event with a word and the name of its message sends a message that one of some events sends. A message without a name is another each time
+abbrev pub sends_again_by : List NamedEvent → LogWord → (message : Option (List ℕ)) → Bool
+sends_again_by events word.Send (Some name) = not (length name == 0) && is_sent_by events name
+sends_again_by events _ _ = false
+
+abbrev pub sends_again : List NamedEvent → NamedEvent → Bool
+sends_again events event = sends_again_by events event.head.word event.message

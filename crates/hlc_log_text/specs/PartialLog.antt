@@ -1,5 +1,5 @@
 -- A log while it is read.
-use Rattle.std.specs.Prelude.{◌≡◌, ℕ, Bool, true, false, ◌+◌, ◌<◌, ◌≤◌, ◌⊎◌, All, List, [], ◌∷◌, ◌++◌, Option, Some, None, Result, Ok, Err, length, map, max, slice_get}
+use Rattle.std.specs.Prelude.{◌≡◌, ◌≢◌, ℕ, Bool, true, false, IsTrue, slice_index_or, ◌+◌, ◌<◌, ◌≤◌, ◌⊎◌, All, List, [], ◌∷◌, ◌++◌, Option, Some, None, Result, Ok, Err, length, map, max, slice_get}
 use Rattle.std.specs.List.{range_with_len}
 use Rattle.hlc_stamp.specs.declared.id.NodeId.{NodeId}
 use Rattle.hlc_stamp.specs.declared.limits.TheConstants.{MAX_CAPACITY}
@@ -7,6 +7,8 @@ use Rattle.hlc_log.specs.declared.log_event.TheConstants.{MAX_LOG_NODES}
 use Rattle.hlc_log.specs.declared.log_event.LogKind.{LogKind}
 use Rattle.hlc_log.specs.Events.{IsMessageBelow}
 use Rattle.hlc_log.specs.Log.{StoredLog}
+use Rattle.hlc_log.specs.Unsent.{is_sent}
+use Rattle.hlc_log.specs.declared.log_event.LogEvent.{LogEvent}
 use Rattle.hlc_csv.specs.Rows.{Fields}
 use Rattle.hlc_csv.specs.declared.found_record.FoundRecord.{FoundRecord}
 use Rattle.hlc_csv.specs.declared.found_record.TheConstants.{LAST_LINE}
@@ -14,12 +16,17 @@ use Rattle.hlc_log_text.specs.declared.log_rules.LogRules.{LogRules}
 use Rattle.hlc_log_text.specs.declared.bad_log.BadLine.{BadLine}
 use Rattle.hlc_log_text.specs.declared.bad_log.BadLog.{BadLog}
 use Rattle.hlc_log_text.specs.declared.bad_log.BadLog.TheVariants as bad
+use Rattle.hlc_log_text.specs.declared.fault.LogTextFault.{LogTextFault}
+use Rattle.hlc_log_text.specs.declared.fault.LogTextFault.TheVariants as fault
 use Rattle.hlc_log_text.specs.declared.fault_rule.FaultRule.{FaultRule}
+use Rattle.hlc_log_text.specs.declared.fault_rule.FaultRule.TheVariants.{TellEach}
 use Rattle.hlc_log_text.specs.declared.log_text.LogText.{LogText}
 use Rattle.hlc_log_text.specs.declared.log_word.LogWord.{LogWord}
 use Rattle.hlc_log_text.specs.declared.partial_log.PartialLog.{PartialLog}
-use Rattle.hlc_log_text.specs.LogItem.{Asks, Fails, LogItem, Skips, Tells, bad_lines_in, event_lines, events_in, header_columns, item_after}
-use Rattle.hlc_log_text.specs.FaultRule.{leaves_out}
+use Rattle.hlc_log_text.specs.declared.sent_marks.SentMarks.{SentMarks}
+use Rattle.hlc_log_text.specs.LogItem.{Asks, Begins, Fails, LogItem, Skips, Tells, bad_lines_in, event_lines, events_in, header_columns, is_at_start, item_after, marks_in}
+use Rattle.hlc_log_text.specs.BadRecords.{bad_records_on}
+use Rattle.hlc_log_text.specs.FaultRule.{leaves_out, leaves_sent}
 use Rattle.hlc_log_text.specs.Labels.{label_at}
 use Rattle.hlc_log_text.specs.LogText.{IsRawTextOf, apart_count, apart_if, kind_message, kind_word, message_names, node_names, node_of, record_count, sender_of_event, unnamed_in}
 use Rattle.hlc_log_text.specs.Names.{with_name}
@@ -54,11 +61,13 @@ abbrev pub text_of : PartialLog → LogText
 text_of partial = record {
   log = partial.log;
   nodes = partial.nodes;
+  message_names = partial.messages;
   messages = length partial.messages;
   labels = partial.labels;
   questions = partial.questions;
   skipped = partial.skipped;
   left_out = partial.left_out;
+  files = partial.files;
 }
 
 -- the nodes that so many events name as senders, by their places
@@ -75,11 +84,13 @@ abbrev pub apart_text : PartialLog → LogText
 apart_text partial = record {
   log = apart_log partial;
   nodes = partial.nodes;
+  message_names = partial.messages;
   messages = apart_count (unnamed_in partial.messages) (length partial.messages) (length partial.log.events);
   labels = partial.labels;
   questions = partial.questions;
   skipped = partial.skipped;
   left_out = partial.left_out;
+  files = partial.files;
 }
 
 -- what was read, with these names of nodes
@@ -87,11 +98,13 @@ abbrev pub text_with : List (List ℕ) → PartialLog → LogText
 text_with nodes partial = record {
   log = partial.log;
   nodes = nodes;
+  message_names = partial.messages;
   messages = apart_count (unnamed_in partial.messages) (length partial.messages) (length partial.log.events);
   labels = partial.labels;
   questions = partial.questions;
   skipped = partial.skipped;
   left_out = partial.left_out;
+  files = partial.files;
 }
 
 -- what was read names few nodes, and mentions no more messages than it has events
@@ -103,6 +116,22 @@ pub record HasFewNames (partial : PartialLog) : Type 0 where
 pub record IsFinished (old new : PartialLog) (nodes : List (List ℕ)) : Type 0 where
   pub text : text_with nodes new ≡ apart_text old
   pub few : HasFewNames new
+
+-- whether a message of a number is marked as sent
+abbrev pub mark_at : SentMarks → (m : ℕ) → Bool
+mark_at sent m = slice_index_or sent.marks.items m false
+
+-- if it is kept which messages were sent, those are marked that these events send
+abbrev pub AreMarked : SentMarks → List LogEvent → Type 0
+AreMarked sent events = IsTrue sent.is_kept → (m : ℕ) → mark_at sent m ≡ is_sent events m
+
+-- that is kept if the rules ask for it
+abbrev pub KeepsMarksBy : LogRules → PartialLog → Type 0
+KeepsMarksBy rules partial = partial.sent.is_kept ≡ leaves_sent rules.faults rules.resent
+
+-- it is kept after as before
+abbrev pub KeepMarks : (old new : PartialLog) → Type 0
+KeepMarks old new = new.sent.is_kept ≡ old.sent.is_kept
 
 -- records that say this were read so far, which begin on these lines
 pub record IsPartialLog (items : List LogItem) (lines : List ℕ) (partial : PartialLog) : Type 0 where
@@ -118,13 +147,18 @@ pub record IsPartialLog (items : List LogItem) (lines : List ℕ) (partial : Par
   pub senders : (place : ℕ) → label_at partial.senders place ≡ sender_of_event (events_in items) place
   pub skipped : partial.skipped ≡ skipped_in items lines
   pub left_out : partial.left_out.items ≡ bad_lines_in items lines
+  pub sent : AreMarked partial.sent partial.log.events
+  pub files : partial.files ≡ marks_in items lines
+  pub marks : All (λ mark. mark.line ≤ partial.line) partial.files
+  pub at_start : partial.at_start ≡ is_at_start items
 
--- one more record finds numbers for its names and its line
+-- one more record finds numbers for its names and its line, which comes after all file marks
 pub record HasPlace (partial : PartialLog) : Type 0 where
   pub few_records : record_count (text_of partial) < MAX_CAPACITY
   pub few_nodes : length partial.nodes ≤ MAX_LOG_NODES
   pub few_messages : length partial.messages ≤ length partial.log.events
   pub last : partial.line < LAST_LINE + MAX_CAPACITY
+  pub marks : All (λ mark. mark.line ≤ partial.line) partial.files
 
 -- a line comes after that of the last record, and leaves lines for more
 pub record IsNextLine (partial : PartialLog) (line : ℕ) : Type 0 where
@@ -153,6 +187,11 @@ AsksNext old asked line new =
 abbrev pub SkipsNext : (old : PartialLog) → (line : ℕ) → (new : PartialLog) → Type 0
 SkipsNext old line new =
     (items : List LogItem) (lines : List ℕ) → IsPartialLog items lines old → IsPartialLog (items ++ Skips ∷ []) (lines ++ line ∷ []) new
+
+-- a file of a name is begun, whatever was read before
+abbrev pub BeginsNext : (old : PartialLog) → (name : List ℕ) → (line : ℕ) → (new : PartialLog) → Type 0
+BeginsNext old name line new =
+    (items : List LogItem) (lines : List ℕ) → IsPartialLog items lines old → IsPartialLog (items ++ Begins name ∷ []) (lines ++ line ∷ []) new
 
 -- after these the next record, which is to say this, is bad for this reason: it says nothing, or its event names one node too many
 abbrev pub IsBadSaid : List LogItem → Result LogItem BadLog → BadLog → Type 0
@@ -192,6 +231,14 @@ LeavesNext rule old b new kept =
 -- the line that is told of the next record, which is counted to begin on a line
 abbrev pub told_line : PartialLog → (counted : ℕ) → ℕ
 told_line partial counted = max counted (partial.line + 1)
+
+-- what a fault tells of a log that was read to its end: each of its bad records is to be told, and there are some
+abbrev pub TellsLeftOut : FaultRule → PartialLog → LogTextFault → Type 0
+TellsLeftOut rule partial (fault.Bad told) =
+    (rule ≡ TellEach) × (told.items ≢ []) × (told.items ≡ bad_records_on partial.files partial.left_out.items)
+TellsLeftOut rule partial fault.Read = ⊥
+TellsLeftOut rule partial fault.TooLong = ⊥
+TellsLeftOut rule partial fault.Memory = Unit {0}
 
 -- the next record ends the reading for this reason: nothing closes its last field; or it is bad otherwise, and the rules don't leave it out
 abbrev pub IsBadFound : LogRules → List LogItem → Fields → (is_open : Bool) → BadLog → Type 0

@@ -1,43 +1,39 @@
 -- What may be asked about a log.
-use Rattle.std.specs.Prelude.{Bool, ◌==◌, ◌≡◌, ◌↔◌, ℕ, List, [], ◌∷◌, length, map, Option, Some, None, Result, Ok, Err, bytes_eq, codes, drop, if◌then◌else◌, nat_le, ok_or, option_map}
-use Rattle.hlc_csv.specs.Number.{number_of, of_both}
-use Rattle.hlc_csv.specs.NumberList.{numbers_in}
+use Rattle.std.specs.Prelude.{Bool, ◌==◌, ◌≡◌, ◌↔◌, ℕ, ◌+◌, List, [], ◌∷◌, length, Option, Some, None, Result, Ok, Err, bytes_eq, codes, drop, if◌then◌else◌, nat_le, ok_or, option_map, take}
+use Rattle.memchr.specs.Find.{is_byte, last_of, places}
+use Rattle.hlc_csv.specs.Number.{number_of}
 use Rattle.hlc_csv.specs.Records.{AreAllOf}
 use Rattle.hlc_csv.specs.TextEnd.{IsClosed}
 use Rattle.hlc_csv.specs.Rows.{Fields, field_of}
 use Rattle.hlc_log_text.specs.declared.bad_log.BadLog.{BadLog}
 use Rattle.hlc_log_text.specs.declared.bad_log.BadLog.TheVariants as bad
 use Rattle.hlc_log_text.specs.declared.log_column.LogColumn.TheVariants as column
-use Rattle.hlc_log_text.specs.declared.question.Line.{Line}
+use Rattle.hlc_log_text.specs.declared.location.Location.{Location}
 use Rattle.hlc_log_text.specs.declared.question.LogQuestion.{LogQuestion}
 use Rattle.hlc_log_text.specs.declared.question.LogQuestion.TheVariants as question
 use Rattle.hlc_log_text.specs.declared.question_word.QuestionWord.{QuestionWord}
 use Rattle.hlc_log_text.specs.declared.question_word.QuestionWord.TheVariants as word
 use Rattle.hlc_log_text.specs.NamedEvent.{is_name}
 
--- what a record asks about events, by their lines, or about a node, by its name
+-- what a record asks about events, by where their lines stand, or about a node, by its name
 pub data Asked : Type 0 where
-  Explain : (line : ℕ) → Asked
-  Check : (line : ℕ) (chain : List ℕ) → Asked
-  Relation : (first second : ℕ) → Asked
-  Influenced : (line : ℕ) → Asked
+  Explain : (event : Location) → Asked
+  Check : (event : Location) (chain : List Location) → Asked
+  Relation : (first second : Location) → Asked
+  Influenced : (event : Location) → Asked
   Drift : (node : List ℕ) → Asked
-  Claimed : (line : ℕ) → Asked
-  Event : (line : ℕ) → Asked
-
--- the numbers of lines
-abbrev pub numbers_of : List Line → List ℕ
-numbers_of lines = map (λ line. line.0) lines
+  Claimed : (event : Location) → Asked
+  Event : (event : Location) → Asked
 
 -- a question of the program, without its types
 abbrev pub plain_asked : LogQuestion → Asked
-plain_asked (question.Explain line) = Explain line.0
-plain_asked (question.Check line chain) = Check line.0 (numbers_of chain.items)
-plain_asked (question.Relation first second) = Relation first.0 second.0
-plain_asked (question.Influenced line) = Influenced line.0
+plain_asked (question.Explain event) = Explain event
+plain_asked (question.Check event chain) = Check event chain.items
+plain_asked (question.Relation first second) = Relation first second
+plain_asked (question.Influenced event) = Influenced event
 plain_asked (question.Drift node) = Drift node
-plain_asked (question.Claimed line) = Claimed line.0
-plain_asked (question.Event line) = Event line.0
+plain_asked (question.Claimed event) = Claimed event
+plain_asked (question.Event event) = Event event
 
 -- what was read as a question, or the reason for which it is none
 abbrev pub plain_read : Result LogQuestion BadLog → Result Asked BadLog
@@ -66,33 +62,58 @@ takes_fields word.Drift fields = fields == 2
 takes_fields word.Claimed fields = fields == 2
 takes_fields word.Event fields = fields == 2
 
--- the line whose number stands at a place
-abbrev pub line_in : Fields → ℕ → Option ℕ
-line_in fields place = number_of (field_of fields place)
+-- the line of this number in a file, or in none
+abbrev pub numbered : (file : Option (List ℕ)) → Option ℕ → Option Location
+numbered file number = option_map (λ line. record { file = file; line = line }) number
 
--- the lines whose numbers fields are, where all are numbers
-abbrev pub lines_in : Fields → Option (List ℕ)
-lines_in fields = numbers_in number_of fields
+-- what a field names, by the last colon in it, if it has one: NAME:LINE, if that may be a name, or LINE
+abbrev pub location_by : (field : List ℕ) → (colon : Option ℕ) → Option Location
+location_by field None = numbered None (number_of field)
+location_by field (Some at) =
+    if is_name (take at field) then numbered (Some (take at field)) (number_of (drop (at + 1) field)) else None
 
--- whether events explain the stamp of one, where all lines are there
-abbrev pub check_of : Option ℕ → Option (List ℕ) → Option Asked
-check_of (Some line) (Some chain) = Some (Check line chain)
-check_of (Some line) None = None
+abbrev pub location_of_field : List ℕ → Option Location
+location_of_field field = location_by field (last_of (places (is_byte 58) field))
+
+-- what the field at a place names
+abbrev pub location_in : Fields → ℕ → Option Location
+location_in fields place = location_of_field (field_of fields place)
+
+-- a location before others, if all are there
+abbrev pub location_before : Option Location → Option (List Location) → Option (List Location)
+location_before (Some location) (Some locations) = Some (location ∷ locations)
+location_before (Some location) None = None
+location_before None locations = None
+
+-- what fields name, if each names a location
+abbrev pub locations_in : Fields → Option (List Location)
+locations_in [] = Some []
+locations_in (field ∷ fields) = location_before (location_of_field field) (locations_in fields)
+
+-- whether events explain the stamp of one, where the locations of all are there
+abbrev pub check_of : Option Location → Option (List Location) → Option Asked
+check_of (Some event) (Some chain) = Some (Check event chain)
+check_of (Some event) None = None
 check_of None chain = None
 
 abbrev pub check_asked : Fields → Option Asked
-check_asked fields = check_of (line_in fields 1) (lines_in (drop 2 fields))
+check_asked fields = check_of (location_in fields 1) (locations_in (drop 2 fields))
 
--- how two events stand in happened-before, where both lines are there
+-- how two events stand in happened-before, where the locations of both are there
+abbrev pub relation_of : Option Location → Option Location → Option Asked
+relation_of (Some first) (Some second) = Some (Relation first second)
+relation_of (Some first) None = None
+relation_of None second = None
+
 abbrev pub relation_asked : Fields → Option Asked
-relation_asked fields = of_both (λ first second. Relation first second) (line_in fields 1) (line_in fields 2)
+relation_asked fields = relation_of (location_in fields 1) (location_in fields 2)
 
--- the same where the line of the first event is there
-abbrev pub check_from : ℕ → Fields → Result Asked BadLog
-check_from line fields = ok_or (check_of (Some line) (lines_in (drop 2 fields))) bad.Line
+-- the same where the location of the first event is there
+abbrev pub check_from : Location → Fields → Result Asked BadLog
+check_from event fields = ok_or (check_of (Some event) (locations_in (drop 2 fields))) bad.Line
 
-abbrev pub relation_from : ℕ → Fields → Result Asked BadLog
-relation_from first fields = ok_or (of_both (λ first second. Relation first second) (Some first) (line_in fields 2)) bad.Line
+abbrev pub relation_from : Location → Fields → Result Asked BadLog
+relation_from first fields = ok_or (relation_of (Some first) (location_in fields 2)) bad.Line
 
 -- how far the stamps of the node of a name ran ahead, if it may be a name
 abbrev pub drift_asked : List ℕ → Result Asked BadLog
@@ -100,13 +121,13 @@ drift_asked name = if is_name name then Ok (Drift name) else Err (bad.Name colum
 
 -- what a record of a word and as many fields as it has asks
 abbrev pub asked_by_word : QuestionWord → Fields → Result Asked BadLog
-asked_by_word word.Explain fields = ok_or (option_map (λ line. Explain line) (line_in fields 1)) bad.Line
+asked_by_word word.Explain fields = ok_or (option_map (λ event. Explain event) (location_in fields 1)) bad.Line
 asked_by_word word.Check fields = ok_or (check_asked fields) bad.Line
 asked_by_word word.Relation fields = ok_or (relation_asked fields) bad.Line
-asked_by_word word.Influenced fields = ok_or (option_map (λ line. Influenced line) (line_in fields 1)) bad.Line
+asked_by_word word.Influenced fields = ok_or (option_map (λ event. Influenced event) (location_in fields 1)) bad.Line
 asked_by_word word.Drift fields = drift_asked (field_of fields 1)
-asked_by_word word.Claimed fields = ok_or (option_map (λ line. Claimed line) (line_in fields 1)) bad.Line
-asked_by_word word.Event fields = ok_or (option_map (λ line. Event line) (line_in fields 1)) bad.Line
+asked_by_word word.Claimed fields = ok_or (option_map (λ event. Claimed event) (location_in fields 1)) bad.Line
+asked_by_word word.Event fields = ok_or (option_map (λ event. Event event) (location_in fields 1)) bad.Line
 
 -- the word is known: then the number of fields is right, and then the numbers or the name
 abbrev pub asked_after_word : Option QuestionWord → Fields → Result Asked BadLog

@@ -1,6 +1,6 @@
 -- Records that were left out of a log.
 use Rattle.std.specs.Prelude.{ℕ, ◌+◌, Bool, false, true, List, [], ◌∷◌, Option, Some, None, filter, length}
-use Rattle.hlc_log_text.specs.LogItem.{Asks, Fails, LogItem, Names, Skips, Tells, lines_where}
+use Rattle.hlc_log_text.specs.LogItem.{Asks, Begins, Fails, LogItem, Names, Skips, Tells, lines_where}
 use Rattle.hlc_log_text.specs.declared.skipped.Skipped.{Skipped}
 
 -- whether a record says that it was left out
@@ -9,6 +9,7 @@ is_skip (Tells event) = false
 is_skip (Asks asked) = false
 is_skip (Names columns) = false
 is_skip Skips = true
+is_skip (Begins name) = false
 is_skip (Fails why) = false
 
 -- how many records say so

@@ -1,33 +1,12 @@
 -- The forms in which logs write stamps.
-use Rattle.std.specs.Prelude.{◌==◌, ◌&&◌, ℕ, ◌+◌, ◌-◌, ◌^◌, Bool, List, Option, Some, None, if◌then◌else◌, drop, length, nat_le, option_map, position, take}
+use Rattle.std.specs.Prelude.{◌==◌, ◌&&◌, ℕ, ◌+◌, ◌-◌, ◌^◌, Bool, List, Option, length, option_map}
 use Rattle.hlc_stamp.specs.declared.stamp.Stamp.{Stamp}
-use Rattle.hlc_csv.specs.Number.{number_of, of_both}
+use Rattle.hlc_csv.specs.Number.{number_of}
 use Rattle.hlc_csv.specs.Rows.{Fields, field_of}
-use Rattle.hlc_log_text.specs.Packed.{unpacked}
+use Rattle.hlc_packed.specs.Packed.{unpacked}
+pub use Rattle.hlc_log_line.specs.StampText.{dotted_stamp, pair_stamp}
 use Rattle.hlc_log_text.specs.declared.stamp_form.StampForm.{StampForm}
 use Rattle.hlc_log_text.specs.declared.stamp_form.StampForm.TheVariants.{Dotted, Packed, Pair}
-
--- a number, if it has at most 32 bits
-abbrev pub if_count : Option ℕ → Option ℕ
-if_count (Some n) = if nat_le n 4294967295 then Some n else None
-if_count None = None
-
--- the c that a field writes, if it has at most 32 bits
-abbrev pub count_of : List ℕ → Option ℕ
-count_of field = if_count (number_of field)
-
--- the stamp of which two fields are the numbers
-abbrev pub pair_stamp : (l c : List ℕ) → Option Stamp
-pair_stamp l c = of_both (λ l c. record { l = l; c = c }) (number_of l) (count_of c)
-
--- the stamp that a field writes with a dot at a place: l stands before it, and c after it
-abbrev pub stamp_around : Option ℕ → List ℕ → Option Stamp
-stamp_around None field = None
-stamp_around (Some dot) field = pair_stamp (take dot field) (drop (dot + 1) field)
-
--- the stamp that a field writes with a dot; with a second one there is none, since c is all digits
-abbrev pub dotted_stamp : List ℕ → Option Stamp
-dotted_stamp field = stamp_around (position (λ byte. byte == 46) field) field
 
 -- the stamp that a field packs in one number
 abbrev pub packed_stamp : (bits : ℕ) → List ℕ → Option Stamp

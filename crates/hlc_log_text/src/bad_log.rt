@@ -1,3 +1,4 @@
+use crate::location::Location;
 use crate::log_column::LogColumn;
 
 /// Why a record of a log is bad, so that it tells of no event and asks no question: the first of these that holds.
@@ -23,17 +24,32 @@ pub enum BadLog {
     /// The name of its node or of its message is empty, or longer than `MAX_NAME_LEN`, or that of a sender in place of a message is. In a log with
     /// a column `from` the message of a send may be empty, and so may that of a receive that names its sender there. The column is the first such.
     Name(LogColumn),
+    /// It sends a message that an earlier record sends. It is one of the bad only where these are left out, and no send is said to be the one that
+    /// receives of such a message are of (`LogRules::leaves_sent`); else the log is read, and has no causal order.
+    SentTwice,
+    /// It tells of an event that has no place in any causal order: receives wait for one another, and it is one of these or comes after one. No record
+    /// is read so: whoever opens a log leaves such events out where bad records are, and else the log isn't opened.
+    Cycle,
     /// It names one more node than `MAX_LOG_NODES`.
     Node,
     /// Its last field begins with a quotation mark that nothing closes, so that it took in the rest of the log. Then no other reason is told.
     Quote,
 }
 
-/// A record that is bad.
+/// A record that is bad, told by its line over all files.
 #[derive(Clone, Copy, Debug, PartialEq, Eq)]
 pub struct BadLine {
     /// The line on which it begins, from 1.
     pub line: u32,
+    /// Why it is bad.
+    pub why: BadLog,
+}
+
+/// A record that is bad, told by where it stands in the files that a log was put together of.
+#[derive(Debug, Drop)]
+pub struct BadRecord {
+    /// The line on which it begins.
+    pub location: Location,
     /// Why it is bad.
     pub why: BadLog,
 }
@@ -54,6 +70,8 @@ impl BadLog {
             BadLog::Fields => b"fields",
             BadLog::Number(_) | BadLog::Line => b"number",
             BadLog::Name(_) => b"name",
+            BadLog::SentTwice => b"sent-twice",
+            BadLog::Cycle => b"cycle",
             BadLog::Node => b"node",
             BadLog::Quote => b"quote",
         }
@@ -71,6 +89,8 @@ impl BadLog {
             | BadLog::Number(_)
             | BadLog::Line
             | BadLog::Name(_)
+            | BadLog::SentTwice
+            | BadLog::Cycle
             | BadLog::Node => true,
         }
     }
@@ -85,6 +105,8 @@ impl BadLog {
             | BadLog::Header
             | BadLog::Fields
             | BadLog::Line
+            | BadLog::SentTwice
+            | BadLog::Cycle
             | BadLog::Node
             | BadLog::Quote => None,
         }

@@ -7,13 +7,14 @@ ghost use Rattle.hlc_log_text.specs.Columns.{begins_as_header, column_in, column
 ghost use Rattle.hlc_log_text.specs.LogColumn.{column_name};
 
 use crate::bad_column::bad_of_carried;
+use crate::extras::Extras;
 use crate::log_column::LogColumn;
 use crate::log_word::LogWord;
 use crate::record_syntax::RecordSyntax;
 use crate::stamp_form::StampForm;
 use csv::ByteRecord;
 use hlc_causality::MAX_FLOOR_C;
-use hlc_csv::field;
+use hlc_csv::{field, number};
 use hlc_stamp::Stamp;
 use std::alloc::AllocError;
 
@@ -37,6 +38,8 @@ pub(crate) struct Columns {
     pub(crate) message: usize,
     // Of the node that sent a received message, if the record names that in place of it.
     pub(crate) from: usize,
+    // By what an event stands among those of its node.
+    pub(crate) seq: usize,
     pub(crate) label: usize,
 }
 
@@ -107,7 +110,7 @@ fn push_label(label: &[u8], placed: &mut ByteRecord) -> Result<(), AllocError>
 }
 
 impl Columns {
-    ghost use Rattle.hlc_log_text.specs.Columns.{all_columns_in_place, arranged, carried_first, carried_for, carried_second, columns_of, from_in, is_complete, message_part, stamp_part};
+    ghost use Rattle.hlc_log_text.specs.Columns.{all_columns_in_place, arranged, carried_first, carried_for, carried_second, columns_of, extras_for, from_in, is_complete, message_part, seq_in, stamp_part};
 
     // Those that a header names.
     pub(crate) fn named(header: &ByteRecord) -> Columns
@@ -125,6 +128,7 @@ impl Columns {
             carried_c: column(header, LogColumn::CarriedC),
             message: column(header, LogColumn::Message),
             from: column(header, LogColumn::From),
+            seq: column(header, LogColumn::Seq),
             label: column(header, LogColumn::Label),
         }
     }
@@ -134,7 +138,7 @@ impl Columns {
         ensures { result ≡ all_columns_in_place }
     {
         Columns {
-            count: 12,
+            count: 13,
             node: 1,
             reading: 2,
             l: 3,
@@ -145,7 +149,8 @@ impl Columns {
             carried: 8,
             carried_l: 9,
             carried_c: 10,
-            label: 11,
+            seq: 11,
+            label: 12,
         }
     }
 
@@ -252,8 +257,34 @@ impl Columns {
         Some(field(fields, self.from))
     }
 
+    // By what the event of a record stands among those of its node, if that is well written: by 0 if its field is empty.
+    #[inline]
+    fn seq(self, fields: &ByteRecord) -> Option<u64>
+        ensures { result ≡ seq_in self (fields_of fields.now) }
+    {
+        let seq = field(fields, self.seq);
+        if seq.is_empty() {
+            return Some(0);
+        }
+        number(seq)
+    }
+
+    // What a record that begins with the word of an event tells in the columns that only a header names, or the first of these that is badly written.
+    pub(crate) fn extras(
+        self,
+        form: StampForm,
+        word: LogWord,
+        fields: &ByteRecord,
+    ) -> Result<Extras, LogColumn>
+        ensures { result ≡ extras_for form self word (fields_of fields.now) }
+    {
+        let carried = self.carried(form, word, fields)?;
+        let seq = self.seq(fields).ok_or(LogColumn::Seq)?;
+        Ok(Extras { carried, seq })
+    }
+
     // What a record that begins with the word of an event tells of the stamp that a message carried, or the column where that is badly written.
-    pub(crate) fn carried(
+    fn carried(
         self,
         form: StampForm,
         word: LogWord,

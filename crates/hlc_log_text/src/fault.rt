@@ -1,16 +1,16 @@
 ghost use Rattle.std.specs.Prelude.{◌≡◌};
 
-use crate::bad_log::BadLine;
+use crate::bad_log::BadRecord;
 use hlc_csv::{RecordFault, RecordsFault};
 use std::alloc::AllocError;
 use thiserror::Error;
 
 /// Why a log could not be read.
-#[derive(Clone, Copy, Debug, PartialEq, Eq, Drop, Error)]
+#[derive(Debug, Drop, Error)]
 pub enum LogTextFault {
-    /// A record is bad: the first such that isn't left out.
+    /// Records are bad: the first such that isn't left out; or each, in their order, if each is to be told.
     #[error("a record is bad")]
-    Bad(BadLine),
+    Bad(Vec<BadRecord>),
     /// The reader failed.
     #[error("{}", RecordsFault::Read)]
     Read,

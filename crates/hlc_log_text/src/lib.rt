@@ -7,13 +7,16 @@
 //! A restart says that the node came back with its clock restored to the stamp, an upper bound that it had kept. Its `c` is at most
 //! `MAX_FLOOR_C` of `hlc_causality`, and the event never has a reading that is told, whatever its field says.
 //!
-//! If the first field of a log is `kind`, its first record is a header, which names the columns: `node`, `l` and `c`, or `stamp` if
-//! that is one field, and `reading`, `message`, `from`, `label` and `carried`, which may be left out, in any order. A restart has the columns
+//! If the first field of a log, or of one of its files, is `kind`, its first record is a header, which names the columns: `node`, `l` and `c`, or `stamp` if
+//! that is one field, and `reading`, `message`, `from`, `label`, `seq` and `carried`, which may be left out, in any order. A restart has the columns
 //! of a local event. Other columns aren't read.
 //!
 //! In the column `carried`, or in `carried_l` and `carried_c` if a stamp is two fields, a receive tells which stamp its message carried, in
 //! the form of the log; its `c` is below `MAX_FLOOR_C`. If the fields are empty, it doesn't tell. In records of other words they aren't
 //! read, and in a log without a header nothing is told.
+//!
+//! In the column `seq` an event tells by what it stands among those of its node, if that isn't by its line: a number of 64 bits, or 0 if the field
+//! is empty, as if there is no such column.
 //!
 //! In the column `from` a receive names the node that sent its message, in place of the message, which it leaves empty. It has to tell which
 //! stamp its message carried: it receives the message of the first event of the log that this node sends with that stamp, wherever in the log
@@ -35,27 +38,30 @@
 //! and why they are bad; but a bad header ends it always, and so does a quotation mark that nothing closes.
 //!
 //! Records that ask questions may stand anywhere among them: `explain,LINE`, `check,LINE` and any number of lines after it,
-//! `relation,LINE,LINE`, `influenced,LINE`, `drift,NODE`, `claimed,LINE` or `event,LINE`. A question is asked of the whole log, so
-//! logs with questions can be put one after another as well.
+//! `relation,LINE,LINE`, `influenced,LINE`, `drift,NODE`, `claimed,LINE` or `event,LINE`, with `NAME:LINE` (`Location`) for a line of a file. A
+//! question is asked of the whole log, so logs with questions can be put one after another as well.
 //!
-//! - `read_log` reads a log to its end: a `LogText` with its events (`hlc_log`), the nodes' names, the labels and the questions, and which
-//!   records were left out, before it was read (`Skipped`) or as bad ones (`BadLine`).
+//! - `read_log` reads a log to its end: a `LogText` with its events (`hlc_log`), the names of nodes and of messages, the labels and the
+//!   questions, and which records were left out, before it was read (`Skipped`) or as bad ones (`BadLine`).
+//! - `Files` has the files that a log was put together of, by their marks (`FileMark`), which are records of one field `==> NAME <==`: it says
+//!   where a line stands in these. Each file may have a header of its own. `LineText` tells a line so in a row: `NAME:LINE`, or `LINE` if no mark
+//!   comes before it.
 //! - `Names` has names in the order in which they were first mentioned, and gives the name of a number; `node_name` gives that of a node.
 //! - `Labels` gives the label of an event by its place; only labels that are there take memory.
-//! - `LogQuestion` is what a record can ask, and `question_of` reads one from a text of its own.
+//! - `LogQuestion` is what a record can ask, and `question_of` reads one from a text of its own; `location_of` reads a location.
 //! - `LogColumn` is a column, by its name, and `LogWord` the word of an event.
 //! - `LogRules` says how a log is read: the syntax of its records, the form of its stamps, the units of its readings and of `l`, within how much
 //!   of the clocks its readings are known, what the clocks do at receives (`hlc_causality`), what becomes of a receive of a message that
 //!   nobody sends, which send a receive is of if its message is sent again, and what becomes of bad records (`FaultRule`). Reading a record takes
-//!   the first four and the last.
+//!   the first four and the last; where bad records are left out, it takes the last but one besides.
 //! - `Units` says which unit of time readings have and which one `l` has (`TimeUnit`), where they aren't the same, as in a log whose stamps are
 //!   uhlc's and whose readings are in milliseconds. A reading is then taken as so many whole units of `l`, and one at least.
 //! - `StampForm` says how stamps are written: a hybrid logical clock's stamp has two parts, `l` and `c`, and logs show them in two fields,
 //!   as one with a dot (CockroachDB: `1700000000123456789.0000000001`), or packed into one number of 64 bits, with `c` in the low ones
 //!   (uhlc, YugabyteDB and TiDB: 4, 12 and 18 of them). `field_count` says how many fields that takes, and `full` is the
 //!   greatest `c` that can be written so. An `l` may be any number of 64 bits: which of them a clock may have is said elsewhere.
-//! - `PackedBits` says how many bits `c` has in a packed stamp; it packs a stamp, and unpacks a number.
-//! - `laws` says that packing loses nothing and keeps the order, that columns have names of their own, and that a log in which each message
+//! - `PackedBits` of `hlc_packed` says how many bits `c` has in a packed stamp; it packs a stamp, and unpacks a number.
+//! - `laws` says that columns have names of their own, and that a log in which each message
 //!   has a name is as it was read.
 //! - `LogTextFault` says why a log could not be read; for a record that is bad, `BadLine` has its line and the reason. A log that
 //!   ends within a field which a quotation mark opens is none: it is cut, or one quotation mark is missing.
@@ -69,7 +75,14 @@
 //!     ensures { IfSome result (λ count. (records : List Fields) × (items : List LogItem) × AreAllOf (Some text.now) records
 //!         × SayItems (exact_rules Pair) records items × (count ≡ length (events_in items))) }
 //! {
-//!     let read = read_log(alloc, text, LogRules::exact(StampForm::Pair), MAX_CAPACITY).ok()?;
+//!     let read = read_log(
+//!         alloc,
+//!         text,
+//!         LogRules::exact(StampForm::Pair),
+//!         MAX_CAPACITY,
+//!         NameKey::fixed(),
+//!     )
+//!     .ok()?;
 //!     Some(read.log.len())
 //! }
 //! ```
@@ -89,20 +102,25 @@
 mod bad_column;
 mod bad_log;
 mod columns;
+mod extras;
 mod fault;
 mod fault_rule;
+mod file_mark;
+mod files;
 mod hints;
 mod labels;
 pub mod laws;
+mod line_text;
+mod location;
 mod log_column;
 mod log_rules;
 mod log_text;
 mod log_word;
 mod missing;
+mod name_key;
 mod name_set;
 mod names;
 mod node_names;
-mod packed_bits;
 mod partial_log;
 mod question;
 mod question_text;
@@ -110,26 +128,32 @@ mod question_word;
 mod read;
 mod record_head;
 mod record_syntax;
+mod sent_marks;
 mod skipped;
 mod stamp_form;
 mod time_unit;
 mod units;
 
-pub use bad_log::{BadLine, BadLog};
+pub use bad_log::{BadLine, BadLog, BadRecord};
 pub use fault::LogTextFault;
 pub use fault_rule::FaultRule;
+pub use file_mark::{FileMark, file_name};
+pub use files::Files;
+pub use hlc_log_line::MAX_NAME_LEN;
+pub use hlc_packed::PackedBits;
 pub use labels::Labels;
+pub use line_text::LineText;
+pub use location::Location;
 pub use log_column::LogColumn;
 pub use log_rules::LogRules;
 pub use log_text::LogText;
 pub use log_word::LogWord;
+pub use name_key::NameKey;
 pub use names::Names;
 pub use node_names::node_name;
-pub use packed_bits::PackedBits;
-pub use question::{Line, LogQuestion};
+pub use question::{LogQuestion, location_of};
 pub use question_text::question_of;
 pub use read::read_log;
-pub use record_head::MAX_NAME_LEN;
 pub use record_syntax::RecordSyntax;
 pub use skipped::Skipped;
 pub use stamp_form::StampForm;

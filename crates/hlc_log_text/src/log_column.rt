@@ -23,6 +23,8 @@ pub enum LogColumn {
     CarriedL,
     /// `c` of the stamp that a received message carried, if a stamp is two fields.
     CarriedC,
+    /// By what the event stands among those of its node.
+    Seq,
     /// The label.
     Label,
 }
@@ -47,6 +49,7 @@ impl LogColumn {
             LogColumn::Carried => "carried",
             LogColumn::CarriedL => "carried_l",
             LogColumn::CarriedC => "carried_c",
+            LogColumn::Seq => "seq",
             LogColumn::Label => "label",
         }
     }
@@ -67,6 +70,7 @@ impl LogColumn {
             "carried" => Some(LogColumn::Carried),
             "carried_l" => Some(LogColumn::CarriedL),
             "carried_c" => Some(LogColumn::CarriedC),
+            "seq" => Some(LogColumn::Seq),
             "label" => Some(LogColumn::Label),
             _ => None,
         }

@@ -22,14 +22,23 @@ pub struct LogRules {
     pub receives: Receives,
     /// Whether a receive of a message that nobody sends is taken as a local event, unless it tells what that carried.
     pub unsent_local: bool,
-    /// Which send of a message that is sent again a receive is of. If it isn't said, no log in which one is can be opened.
+    /// Which send of a message that is sent again a receive is of. If it isn't said, no log in which one is can be opened; or, where bad records are
+    /// left out, so are all sends of it but the first.
     pub resent: Option<Resent>,
     /// What becomes of records that are bad.
     pub faults: FaultRule,
 }
 
 impl LogRules {
+    ghost use Rattle.hlc_log_text.specs.FaultRule.{leaves_sent};
     ghost use Rattle.hlc_log_text.specs.LogRules.{exact_rules};
+
+    // Whether the records of sends are left out whose message an earlier record sends.
+    pub(crate) fn leaves_sent(self) -> bool
+        ensures { result ≡ leaves_sent self.faults self.resent }
+    {
+        self.faults == FaultRule::LeaveOut && self.resent.is_none()
+    }
 
     /// Records of CSV, stamps in this form, exact readings in the unit of `l`, receives that tick, none of a message that nobody sends, none
     /// that is sent again, and no bad record.

@@ -1,4 +1,5 @@
 use crate::bad_log::BadLine;
+use crate::files::Files;
 use crate::labels::Labels;
 use crate::names::Names;
 use crate::question::LogQuestion;
@@ -10,10 +11,14 @@ use hlc_log::Log;
 pub struct LogText {
     /// The events, in the order of the records.
     pub log: Log,
+    /// The files in which their records stand.
+    pub files: Files,
     /// The names of the nodes, by their numbers.
     pub nodes: Names,
-    /// Each message of the events has a number below that: as many as they have names of messages, which aren't kept, and as there are events
-    /// besides if a message has no name.
+    /// The names of the messages that have one, by their numbers.
+    pub message_names: Names,
+    /// Each message of the events has a number below that: as many as there are names of messages, and as there are events besides if a message has
+    /// no name.
     pub messages: usize,
     /// The labels of the events, by their places.
     pub labels: Labels,

@@ -1,8 +1,9 @@
 ghost use Rattle.std.specs.Prelude.{◌≡◌, ◌≤◌, [], IfOk, IfSome, IsOk, IsTrue, OnErr, OnOk, Some, is_some, length, option_map, position, slice_get};
 ghost use Rattle.std.specs.List.{list_any};
 ghost use Rattle.std.specs.Str.{bytes_eq};
-ghost use Rattle.hlc_log_text.specs.Names.{with_name};
+ghost use Rattle.hlc_log_text.specs.Names.{EachNameOnce, with_name};
 
+use crate::name_key::NameKey;
 use crate::names::Names;
 use hlc_pages::{Bytes, INLINE_LEN};
 use indexmap::IndexSet;
@@ -14,7 +15,7 @@ use std::marker::Model;
 // A name of at most 22 bytes lies in the memory of the set, and a longer one takes an allocation.
 #[derive(Drop)]
 pub(crate) struct NameSet {
-    names: IndexSet<Bytes<'static>>,
+    names: IndexSet<Bytes<'static>, NameKey>,
 }
 
 impl Model for NameSet {
@@ -29,12 +30,12 @@ impl Model for NameSet {
 }
 
 impl NameSet {
-    // No names. It takes no memory.
-    pub(crate) fn new(alloc: Global) -> NameSet
+    // No names, which are to be hashed by this key. It takes no memory.
+    pub(crate) fn new(alloc: Global, key: NameKey) -> NameSet
         ensures { result ≡ [] }
     {
         NameSet {
-            names: IndexSet::new(alloc),
+            names: IndexSet::with_hasher(alloc, key),
         }
     }
 
@@ -43,6 +44,7 @@ impl NameSet {
         ensures number { result ≡ position (bytes_eq name.now) self.now }
         ensures name { IfSome result (λ number. slice_get self.now number ≡ Some name.now) }
         ensures known { is_some result ≡ list_any (bytes_eq name.now) self.now }
+        ensures once { EachNameOnce self.now }
     {
         self.names.get_index_of(&Bytes::borrowed(name))
     }

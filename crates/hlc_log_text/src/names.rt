@@ -3,14 +3,15 @@ ghost use Rattle.std.specs.List.{list_any};
 ghost use Rattle.std.specs.Str.{bytes_eq};
 ghost use Rattle.hlc_log_text.specs.Names.{EachNameOnce};
 
+use crate::name_key::NameKey;
 use hlc_pages::Bytes;
 use indexmap::IndexSet;
 use std::marker::Model;
 
-/// The names of a log's nodes, numbered from 0 in the order in which they were first mentioned; seen as the list of them.
+/// The names of a log's nodes, or of its messages, numbered from 0 in the order in which they were first mentioned; seen as the list of them.
 #[derive(Drop)]
 pub struct Names {
-    pub(crate) names: IndexSet<Bytes<'static>>,
+    pub(crate) names: IndexSet<Bytes<'static>, NameKey>,
 }
 
 impl Model for Names {

@@ -1,37 +1,45 @@
 // A log while it is read.
 
-ghost use Rattle.std.specs.Prelude.{◌≡◌, ◌^◌, ◌<◌, ◌≤◌, ℕ, List, [], IfOk, None, OnOk, Some, length, option_map, slice_get, true};
+ghost use Rattle.std.specs.Prelude.{◌≡◌, ◌^◌, ◌<◌, ◌≤◌, ◌∷◌, ◌++◌, ℕ, List, [], IfOk, IsTrue, MatchResult, None, OnOk, Some, ◌&&◌, length, option_map, slice_get, true};
 ghost use Rattle.csv.specs.Records.{fields_of};
 ghost use Rattle.hlc_csv.specs.Rows.{field_of};
+ghost use Rattle.hlc_log_text.specs.BadRecords.{MayBeLeftOut, bad_records_on, told_before};
 ghost use Rattle.hlc_log_text.specs.Columns.{columns_of};
-ghost use Rattle.hlc_log_text.specs.LogItem.{LogItem, asks, begins_as_skip, carry, columns_after, header_item, is_header, item_after, item_from, item_in, other_item, skip_item};
+ghost use Rattle.hlc_log_text.specs.FileMarks.{begun_file};
+ghost use Rattle.hlc_log_text.specs.LogItem.{LogItem, asks, begins_as_skip, columns_after, extend, header_item, is_header, item_after, item_from, item_in, other_item, skip_item, events_in, unless_sent};
 ghost use Rattle.hlc_log_text.specs.LogText.{apart_count, node_of, unnamed_in};
 ghost use Rattle.hlc_log_text.specs.LogWord.{log_word_of};
 ghost use Rattle.hlc_log_text.specs.Names.{with_name};
-ghost use Rattle.hlc_log_text.specs.NamedEvent.{carrying, if_sender, told_by};
-ghost use Rattle.hlc_log_text.specs.PartialLog.{AddsNext, AsksNext, HasFewNames, HasPlace, IsFinished, IsNextLine, IsPartialLog, LeavesNext, NumbersNode, SkipsNext, TakesNext, TakesOr, TakesSaid, TellsKind, apart_log, nodes_named, text_with, told_line};
+ghost use Rattle.hlc_log_text.specs.NamedEvent.{if_message, if_sender, is_sent_by, sends_again_by, told_by, with_extras};
+ghost use Rattle.hlc_log_text.specs.PartialLog.{AddsNext, AsksNext, BeginsNext, HasFewNames, HasPlace, IsFinished, IsNextLine, IsPartialLog, KeepMarks, KeepsMarksBy, LeavesNext, NumbersNode, SkipsNext, TakesNext, TakesOr, TakesSaid, TellsKind, TellsLeftOut, apart_log, nodes_named, text_with, told_line};
 ghost use Rattle.hlc_log_text.specs.Question.{asked_of, plain_asked};
 
-use crate::bad_log::{BadLine, BadLog};
+use crate::bad_log::{BadLine, BadLog, BadRecord};
 use crate::columns::{Columns, begins_as_header, columns_by, names_sender};
+use crate::extras::{Extras, NO_EXTRAS};
+use crate::fault::LogTextFault;
 use crate::fault_rule::FaultRule;
+use crate::file_mark::file_name;
+use crate::files::Files;
 use crate::hints::Hints;
 use crate::labels::Labels;
 use crate::log_rules::LogRules;
 use crate::log_text::LogText;
 use crate::log_word::LogWord;
 use crate::missing::missing_by;
+use crate::name_key::NameKey;
 use crate::name_set::NameSet;
 use crate::names::Names;
 use crate::question::LogQuestion;
-use crate::record_head::{Beside, NODE_PLACE, RecordHead, label, message_place, parse_carrying};
+use crate::record_head::{Beside, NODE_PLACE, RecordHead, label, message_place, parse_whole};
 use crate::record_syntax::RecordSyntax;
+use crate::sent_marks::SentMarks;
 use crate::skipped::Skipped;
 use crate::stamp_form::StampForm;
 use csv::ByteRecord;
 use hlc_csv::{FoundRecord, field};
 use hlc_log::{Log, LogEvent, LogKind, MAX_LOG_NODES, MessageId, tell_apart};
-use hlc_stamp::{EventId, NodeId, Stamp};
+use hlc_stamp::{EventId, NodeId};
 use std::alloc::{AllocError, Global};
 use std::mem;
 
@@ -46,11 +54,16 @@ pub(crate) struct PartialLog {
     senders: Labels,
     questions: Vec<LogQuestion>,
     pub(crate) line: u32,
-    // Those that its header names, if the log has one.
+    files: Files,
+    // Whether the next record is the first of the log or of a file.
+    at_start: bool,
+    // Those that the header of the log names, or that of its last file, if there is one.
     columns: Option<Columns>,
     hints: Hints,
     skipped: Option<Skipped>,
     left_out: Vec<BadLine>,
+    // Which messages were sent, if records that send one of these are bad.
+    sent: SentMarks,
 }
 
 // The names of a record, and its label.
@@ -69,6 +82,17 @@ fn begins_as_skip(fields: &ByteRecord) -> bool
     ensures { result ≡ begins_as_skip (fields_of fields.now) }
 {
     field(fields, 0) == b"skipped".as_slice()
+}
+
+// The name of the file that a record begins, if it begins one.
+fn begun_file(fields: &ByteRecord) -> Option<&[u8]>
+    ensures { option_map (λ name. name.now) result ≡ begun_file (fields_of fields.now) }
+{
+    if fields.len() == 1 {
+        file_name(field(fields, 0))
+    } else {
+        None
+    }
 }
 
 // Whether a node has this name.
@@ -170,22 +194,26 @@ fn nodes_named(
 }
 
 impl PartialLog {
-    // Nothing was read.
-    pub(crate) fn new(alloc: Global) -> PartialLog
-        ensures { IsPartialLog [] [] result }
+    // Nothing was read. Names are to be hashed by this key.
+    pub(crate) fn new(alloc: Global, rules: LogRules, key: NameKey) -> PartialLog
+        ensures log { IsPartialLog [] [] result }
+        ensures marks { KeepsMarksBy rules result }
     {
         PartialLog {
             log: Log::new(alloc),
-            nodes: NameSet::new(alloc),
-            messages: NameSet::new(alloc),
+            nodes: NameSet::new(alloc, key),
+            messages: NameSet::new(alloc, key),
             labels: Labels::new(alloc),
             senders: Labels::new(alloc),
             questions: Vec::new(alloc),
             line: 0,
+            files: Files::new(alloc),
+            at_start: true,
             columns: None,
             hints: Hints::new(),
             skipped: None,
             left_out: Vec::new(alloc),
+            sent: SentMarks::new(alloc, rules.leaves_sent()),
         }
     }
 
@@ -197,8 +225,10 @@ impl PartialLog {
         arranged: &mut ByteRecord,
         found: FoundRecord,
     ) -> Result<Option<BadLine>, AllocError>
-        requires { HasPlace self.old }
-        ensures { IfOk result (TakesNext rules self.old (fields_of fields.now) found self.new) }
+        requires place { HasPlace self.old }
+        requires marks { KeepsMarksBy rules self.old }
+        ensures taken { IfOk result (TakesNext rules self.old (fields_of fields.now) found self.new) }
+        ensures marks { KeepsMarksBy rules self.new }
     {
         let line = self.next_line(found);
         if found.is_open {
@@ -213,15 +243,55 @@ impl PartialLog {
         }
     }
 
+    // These bad records, told by where they stand.
+    fn located(&self, bad: &[BadLine]) -> Result<Vec<BadRecord>, AllocError>
+        ensures { IfOk result (λ told. told.items ≡ bad_records_on self.now.files bad.now) }
+    {
+        let mut told = Vec::with_capacity(self.files.allocator(), bad.len())?;
+        for line in bad {
+            told.push(self.files.bad_record(*line)?)?;
+        }
+        Ok(told)
+    }
+
+    // The bad records that are told, if this one ends the reading.
+    pub(crate) fn told_with(
+        &self,
+        rule: FaultRule,
+        bad: BadLine,
+    ) -> Result<Vec<BadRecord>, AllocError>
+        ensures { IfOk result (λ told. told.items
+            ≡ bad_records_on self.now.files (told_before rule self.now.left_out.items ++ bad ∷ [])) }
+    {
+        let mut told = match rule {
+            FaultRule::TellEach => self.located(&self.left_out)?,
+            FaultRule::First | FaultRule::LeaveOut => Vec::new(self.files.allocator()),
+        };
+        told.push(self.files.bad_record(bad)?)?;
+        Ok(told)
+    }
+
+    // Ends the reading: nothing stands after what was read. If each bad record is to be told, there may be none.
+    pub(crate) fn end(&self, rule: FaultRule) -> Result<(), LogTextFault>
+        ensures { MatchResult result (λ _. MayBeLeftOut rule self.now.left_out.items) (TellsLeftOut rule self.now) }
+    {
+        if rule != FaultRule::TellEach || self.left_out.is_empty() {
+            return Ok(());
+        }
+        Err(LogTextFault::Bad(self.located(&self.left_out)?))
+    }
+
     // Leaves a bad record out, if the rule says so, or hands it back.
     fn leave_out(&mut self, rule: FaultRule, bad: BadLine) -> Result<Option<BadLine>, AllocError>
-        ensures { IfOk result (LeavesNext rule self.old bad self.new) }
+        ensures left { IfOk result (LeavesNext rule self.old bad self.new) }
+        ensures marks { KeepMarks self.old self.new }
     {
         if !rule.leaves_out(bad.why) {
             return Ok(Some(bad));
         }
         self.left_out.push(bad)?;
         self.line = bad.line;
+        self.at_start = false;
         Ok(None)
     }
 
@@ -235,7 +305,9 @@ impl PartialLog {
     ) -> Result<Option<BadLog>, AllocError>
         requires place { HasPlace self.old }
         requires line { IsNextLine self.old line }
-        ensures { IfOk result (TakesSaid (λ items. item_after rules items (fields_of fields.now)) self.old line self.new) }
+        requires marks { KeepsMarksBy rules self.old }
+        ensures taken { IfOk result (TakesSaid (λ items. item_after rules items (fields_of fields.now)) self.old line self.new) }
+        ensures marks { KeepMarks self.old self.new }
     {
         if self.is_header(rules.syntax, fields) {
             return Ok(self.take_header(rules.form, fields, line));
@@ -261,30 +333,33 @@ impl PartialLog {
         requires word { log_word_of (field_of (fields_of fields.now) 0) ≡ Some word }
         requires place { HasPlace self.old }
         requires line { IsNextLine self.old line }
-        ensures { IfOk result (TakesSaid (λ items. item_in rules (columns_after rules items) (fields_of fields.now)) self.old line self.new) }
+        ensures taken { IfOk result (TakesSaid
+            (λ items. unless_sent self.old.sent.is_kept (events_in items) (item_in rules (columns_after rules items) (fields_of fields.now)))
+            self.old line self.new) }
+        ensures marks { KeepMarks self.old self.new }
     {
         let Some(columns) = columns_by(rules.syntax, self.columns) else {
             let beside = Beside {
-                carried: Ok(None),
+                extras: Ok(NO_EXTRAS),
                 from: None,
             };
             return self.take_event(rules, word, fields, beside, line);
         };
         columns.arrange(rules.form, word, fields, arranged)?;
         let beside = Beside {
-            carried: columns.carried(rules.form, word, fields),
+            extras: columns.extras(rules.form, word, fields),
             from: columns.from(fields),
         };
         self.take_event(rules, word, arranged, beside, line)
     }
 
-    // Whether the next record is a header: it is the first, begins as one does, and wasn't written as a line of JSON lines.
+    // Whether the next record is a header: it is the first of the log or of a file, begins as one does, and wasn't written as a line of JSON lines.
     fn is_header(&self, syntax: RecordSyntax, fields: &ByteRecord) -> bool
         ensures { (items : List LogItem) (lines : List ℕ) → IsPartialLog items lines self.now
             → result ≡ is_header syntax items (fields_of fields.now) }
     {
         match syntax {
-            RecordSyntax::Csv => self.line == 0 && begins_as_header(fields),
+            RecordSyntax::Csv => self.at_start && begins_as_header(fields),
             RecordSyntax::JsonLines => false,
         }
     }
@@ -292,8 +367,8 @@ impl PartialLog {
     // Takes in a header, or tells why it is bad.
     fn take_header(&mut self, form: StampForm, fields: &ByteRecord, line: u32) -> Option<BadLog>
         requires line { IsNextLine self.old line }
-        ensures { (lines : List ℕ) → IsPartialLog [] lines self.old
-            → TakesOr [] lines (header_item form (columns_of (fields_of fields.now))) line self.new result }
+        ensures taken { TakesSaid (λ _. header_item form (columns_of (fields_of fields.now))) self.old line self.new result }
+        ensures marks { KeepMarks self.old self.new }
     {
         let columns = Columns::named(fields);
         if !columns.are_complete(form) {
@@ -301,6 +376,7 @@ impl PartialLog {
         }
         self.columns = Some(columns);
         self.line = line;
+        self.at_start = false;
         None
     }
 
@@ -316,11 +392,13 @@ impl PartialLog {
         requires word { log_word_of (field_of (fields_of fields.now) 0) ≡ Some word }
         requires place { HasPlace self.old }
         requires line { IsNextLine self.old line }
-        ensures { IfOk result (TakesSaid
-            (λ _. carry beside.entry.carried (item_from rules (option_map (λ from. from.now) beside.entry.from) (fields_of fields.now)))
+        ensures taken { IfOk result (TakesSaid
+            (λ items. unless_sent self.old.sent.is_kept (events_in items)
+            (extend beside.entry.extras (item_from rules (option_map (λ from. from.now) beside.entry.from) (fields_of fields.now))))
             self.old line self.new) }
+        ensures marks { KeepMarks self.old self.new }
     {
-        let (head, carried) = match parse_carrying(rules, word, fields, beside) {
+        let (head, extras) = match parse_whole(rules, word, fields, beside) {
             Ok(said) => said,
             Err(why) => return Ok(Some(why)),
         };
@@ -330,29 +408,71 @@ impl PartialLog {
             from: beside.from,
             label: label(rules.form, word, fields),
         };
-        if self.add(head, names, carried, line)? {
+        if self.sends_again(head.word, names.message) {
+            return Ok(Some(BadLog::SentTwice));
+        }
+        if self.add(head, names, extras, line)? {
             return Ok(None);
         }
         Ok(Some(BadLog::Node))
+    }
+
+    // Whether a record that begins with a word, and names this message, sends one that an earlier record sends, if such records are bad.
+    fn sends_again(&self, word: LogWord, message: &[u8]) -> bool
+        ensures { (items : List LogItem) (lines : List ℕ) → IsPartialLog items lines self.now
+            → result ≡ (self.now.sent.is_kept && sends_again_by (events_in items) word (if_message word message.now)) }
+    {
+        self.sent.is_kept() && word == LogWord::Send && !message.is_empty() && self.is_sent(message)
+    }
+
+    // Whether a record sends the message of a name, if that is kept.
+    fn is_sent(&self, message: &[u8]) -> bool
+        ensures { (items : List LogItem) (lines : List ℕ) → IsPartialLog items lines self.now → IsTrue self.now.sent.is_kept
+            → result ≡ is_sent_by (events_in items) message.now }
+    {
+        match self.messages.number(message) {
+            Some(number) => self.sent.has(number),
+            None => false,
+        }
     }
 
     // Takes in a record that begins with no word of events.
     fn take_other(&mut self, fields: &ByteRecord, line: u32) -> Result<Option<BadLog>, AllocError>
         requires place { HasPlace self.old }
         requires line { IsNextLine self.old line }
-        ensures { IfOk result (TakesSaid (λ _. other_item (fields_of fields.now)) self.old line self.new) }
+        ensures taken { IfOk result (TakesSaid (λ _. other_item (fields_of fields.now)) self.old line self.new) }
+        ensures marks { KeepMarks self.old self.new }
     {
+        if let Some(name) = begun_file(fields) {
+            self.begin_file(name, line)?;
+            return Ok(None);
+        }
         if begins_as_skip(fields) {
             return Ok(self.take_skip(fields, line));
         }
         self.take_question(fields, line)
     }
 
+    // Begins a file of this name, whose records have columns of their own.
+    fn begin_file(&mut self, name: &[u8], line: u32) -> Result<(), AllocError>
+        requires place { HasPlace self.old }
+        requires line { IsNextLine self.old line }
+        ensures begun { OnOk result (BeginsNext self.old name.now line self.new) }
+        ensures marks { KeepMarks self.old self.new }
+    {
+        self.files.begin(name, line)?;
+        self.line = line;
+        self.at_start = true;
+        self.columns = None;
+        Ok(())
+    }
+
     // Takes in a record that says that it was left out, or tells why it is bad.
     fn take_skip(&mut self, fields: &ByteRecord, line: u32) -> Option<BadLog>
         requires place { HasPlace self.old }
         requires line { IsNextLine self.old line }
-        ensures { TakesSaid (λ _. skip_item (fields_of fields.now)) self.old line self.new result }
+        ensures taken { TakesSaid (λ _. skip_item (fields_of fields.now)) self.old line self.new result }
+        ensures marks { KeepMarks self.old self.new }
     {
         if fields.len() != 1 {
             return Some(BadLog::Fields);
@@ -365,10 +485,12 @@ impl PartialLog {
     fn skip(&mut self, line: u32)
         requires place { HasPlace self.old }
         requires line { IsNextLine self.old line }
-        ensures { SkipsNext self.old line self.new }
+        ensures skipped { SkipsNext self.old line self.new }
+        ensures marks { KeepMarks self.old self.new }
     {
         self.skipped = Some(Skipped::with(self.skipped, line));
         self.line = line;
+        self.at_start = false;
     }
 
     // Takes in a record that is to ask a question.
@@ -378,7 +500,8 @@ impl PartialLog {
         line: u32,
     ) -> Result<Option<BadLog>, AllocError>
         requires { IsNextLine self.old line }
-        ensures { IfOk result (TakesSaid (λ _. asks (asked_of (fields_of fields.now))) self.old line self.new) }
+        ensures taken { IfOk result (TakesSaid (λ _. asks (asked_of (fields_of fields.now))) self.old line self.new) }
+        ensures marks { KeepMarks self.old self.new }
     {
         let alloc = *self.questions.allocator();
         match LogQuestion::parse(alloc, fields)? {
@@ -395,14 +518,15 @@ impl PartialLog {
         &mut self,
         head: RecordHead,
         names: RecordNames<'_>,
-        carried: Option<Stamp>,
+        extras: Extras,
         line: u32,
     ) -> Result<bool, AllocError>
         requires place { HasPlace self.old }
         requires line { IsNextLine self.old line }
-        ensures { IfOk result (AddsNext self.old
-            (carrying carried (told_by head names.entry.node.now names.entry.message.now (option_map (λ from. from.now) names.entry.from)
+        ensures added { IfOk result (AddsNext self.old
+            (with_extras extras (told_by head names.entry.node.now names.entry.message.now (option_map (λ from. from.now) names.entry.from)
             (option_map (λ label. label.now) names.entry.label))) line self.new) }
+        ensures marks { KeepMarks self.old self.new }
     {
         let Some(node) = number_node(&mut self.nodes, &mut self.hints, names.node)? else {
             return Ok(false);
@@ -413,6 +537,7 @@ impl PartialLog {
         self.labels.give(alloc, place, names.label)?;
         self.senders
             .give(alloc, place, sender(head.word, names.from, names.message))?;
+        self.sent.mark(kind)?;
         self.log.push(LogEvent {
             node,
             reading: head.reading,
@@ -420,20 +545,24 @@ impl PartialLog {
             kind,
             stamp: head.stamp,
             has_stamp: head.has_stamp,
-            carried,
+            carried: extras.carried,
+            seq: extras.seq,
             line,
         })?;
         self.line = line;
+        self.at_start = false;
         Ok(true)
     }
 
     // Adds the question that a record asks.
     fn ask(&mut self, question: LogQuestion, line: u32) -> Result<(), AllocError>
         requires { IsNextLine self.old line }
-        ensures { OnOk result (AsksNext self.old (plain_asked question) line self.new) }
+        ensures asked { OnOk result (AsksNext self.old (plain_asked question) line self.new) }
+        ensures marks { KeepMarks self.old self.new }
     {
         self.questions.push(question)?;
         self.line = line;
+        self.at_start = false;
         Ok(())
     }
 
@@ -471,28 +600,32 @@ impl PartialLog {
     {
         self.tell_apart()?;
         let alloc = *self.questions.allocator();
-        let nodes = mem::replace(&mut self.nodes, NameSet::new(alloc));
+        let nodes = mem::replace(&mut self.nodes, NameSet::new(alloc, NameKey::fixed()));
         Ok(nodes.into_names())
     }
 
-    // What was read, with the names of its nodes. Nothing of a log tells the name of a message, so the memory of these names is given back.
+    // What was read, with the names of its nodes.
     pub(crate) fn into_text(self, nodes: Names) -> LogText
         requires { HasFewNames self }
         ensures { result ≡ text_with nodes self }
     {
-        let messages = self.message_count();
+        let count = self.message_count();
         let PartialLog {
             log,
+            messages,
             labels,
             questions,
+            files,
             skipped,
             left_out,
             ..
         } = self;
         LogText {
             log,
+            files,
             nodes,
-            messages,
+            message_names: messages.into_names(),
+            messages: count,
             labels,
             questions,
             skipped,

@@ -1,96 +1,145 @@
-ghost use Rattle.std.specs.Prelude.{◌≡◌, IfOk, drop, option_map};
+ghost use Rattle.std.specs.Prelude.{◌≡◌, ◌<◌, IfOk, None, Some, drop, length, option_map};
 ghost use Rattle.csv.specs.Records.{fields_of};
 ghost use Rattle.hlc_csv.specs.Number.{number_of};
-ghost use Rattle.hlc_log_text.specs.Question.{asked_by_word, asked_of, check_from, drift_asked, line_in, lines_in, numbers_of, plain_read, relation_from};
+ghost use Rattle.hlc_log_text.specs.Question.{asked_by_word, asked_of, check_from, drift_asked, location_by, location_in, location_of_field, locations_in, numbered, plain_read, relation_from};
 
 use crate::bad_log::BadLog;
+use crate::location::Location;
 use crate::log_column::LogColumn;
 use crate::question_word::QuestionWord;
 use crate::record_head::may_be_name;
 use csv::ByteRecord;
-use hlc_csv::{field, number, read_numbers};
+use hlc_csv::{field, number};
 use hlc_pages::Bytes;
+use memchr::memrchr;
 use std::alloc::{AllocError, Global};
 
-/// A line of the input, as a question writes it, counted from 1. It may be that of no event.
-#[derive(Clone, Copy, Debug, PartialEq, Eq)]
-pub struct Line(pub u64);
-
-/// A question about a log, which names events by their lines.
+/// A question about a log, which names events by where their lines stand: `LINE`, or `NAME:LINE` in a file. That may be the line of no event.
 #[derive(Debug, Drop)]
 pub enum LogQuestion {
     /// What forces the least stamp of an event.
-    Explain(Line),
+    Explain(Location),
     /// Whether events explain the least stamp of one.
     Check {
-        /// The line of that event.
-        line: Line,
-        /// The lines of the events, in the order in which the question lists them.
-        chain: Vec<Line>,
+        /// That event.
+        event: Location,
+        /// The events, in the order in which the question lists them.
+        chain: Vec<Location>,
     },
     /// How two events stand in happened-before.
     Relation {
-        /// The line of the first event.
-        first: Line,
-        /// The line of the second event.
-        second: Line,
+        /// The first event.
+        first: Location,
+        /// The second event.
+        second: Location,
     },
     /// Which events an event happened before.
-    Influenced(Line),
+    Influenced(Location),
     /// How far the stamps of the node of this name ran ahead of its readings.
     Drift(Bytes<'static>),
     /// Where the `l` that the log claims for an event came from.
-    Claimed(Line),
+    Claimed(Location),
     /// What is known of an event.
-    Event(Line),
+    Event(Location),
 }
 
-// The line whose number a field is.
-fn line_of(field: &[u8]) -> Option<Line>
-    ensures { option_map (λ line. line.0) result ≡ number_of field.now }
+// The line of this number in a file of a name that it may have.
+fn line_in_file(alloc: Global, name: &[u8], number: u64) -> Result<Location, AllocError>
+    ensures { IfOk result (λ location. location ≡ record { file = Some name.now; line = number }) }
 {
-    Some(Line(number(field)?))
+    Ok(Location {
+        file: Some(Bytes::from_slice(alloc, name)?),
+        line: number,
+    })
 }
 
-// The line whose number stands at a place.
-fn line_at(fields: &ByteRecord, place: usize) -> Option<Line>
-    ensures { option_map (λ line. line.0) result ≡ line_in (fields_of fields.now) place }
+// What a field names whose last colon stands at a place.
+fn location_after(alloc: Global, field: &[u8], colon: usize) -> Result<Option<Location>, AllocError>
+    requires { colon < length field.now }
+    ensures { IfOk result (λ location. location ≡ location_by field.now (Some colon)) }
 {
-    line_of(field(fields, place))
+    let name = &field[..colon];
+    if !may_be_name(name) {
+        return Ok(None);
+    }
+    match number(&field[colon + 1..]) {
+        Some(number) => Ok(Some(line_in_file(alloc, name, number)?)),
+        None => Ok(None),
+    }
 }
 
-// The lines in the fields from a place on, if all those fields are numbers.
-fn read_lines(
+// The line whose number a field is, in no file.
+fn line_alone(field: &[u8]) -> Option<Location>
+    ensures { result ≡ numbered None (number_of field.now) }
+{
+    let line = number(field)?;
+    Some(Location { file: None, line })
+}
+
+/// Where a text says that a line stands: `LINE`, or `NAME:LINE` by its last colon, with a NAME that a file may have.
+pub fn location_of(alloc: Global, field: &[u8]) -> Result<Option<Location>, AllocError>
+    ensures { IfOk result (λ location. location ≡ location_of_field field.now) }
+{
+    match memrchr(b':', field) {
+        Some(colon) => location_after(alloc, field, colon),
+        None => Ok(line_alone(field)),
+    }
+}
+
+// What the field at a place names.
+fn location_at(
+    alloc: Global,
+    fields: &ByteRecord,
+    place: usize,
+) -> Result<Option<Location>, AllocError>
+    ensures { IfOk result (λ location. location ≡ location_in (fields_of fields.now) place) }
+{
+    location_of(alloc, field(fields, place))
+}
+
+// What the fields from a place on name, if each names a location.
+fn read_locations(
     alloc: Global,
     fields: &ByteRecord,
     start: usize,
-) -> Result<Option<Vec<Line>>, AllocError>
-    ensures { IfOk result (λ lines. option_map (λ list. numbers_of list.items) lines ≡ lines_in (drop start (fields_of fields.now))) }
+) -> Result<Option<Vec<Location>>, AllocError>
+    ensures { IfOk result (λ found. option_map (λ list. list.items) found ≡ locations_in (drop start (fields_of fields.now))) }
 {
-    read_numbers(alloc, fields, start, line_of)
+    let mut found = Vec::new(alloc);
+    for place in start..fields.len() {
+        let Some(location) = location_at(alloc, fields, place)? else {
+            return Ok(None);
+        };
+        found.push(location)?;
+    }
+    Ok(Some(found))
 }
 
-// The question whether events explain the stamp of the one on a line, if their lines are numbers.
+// The question whether events explain the stamp of one, if their fields name locations.
 fn read_check(
     alloc: Global,
-    line: Line,
+    event: Location,
     fields: &ByteRecord,
 ) -> Result<Result<LogQuestion, BadLog>, AllocError>
-    ensures { IfOk result (λ read. plain_read read ≡ check_from line.0 (fields_of fields.now)) }
+    ensures { IfOk result (λ read. plain_read read ≡ check_from event (fields_of fields.now)) }
 {
-    match read_lines(alloc, fields, 2)? {
-        Some(chain) => Ok(Ok(LogQuestion::Check { line, chain })),
+    match read_locations(alloc, fields, 2)? {
+        Some(chain) => Ok(Ok(LogQuestion::Check { event, chain })),
         None => Ok(Err(BadLog::Line)),
     }
 }
 
-// The question how the event on a line and another stand in happened-before, if the line of the other is a number.
-fn read_relation(first: Line, fields: &ByteRecord) -> Result<LogQuestion, BadLog>
-    ensures { plain_read result ≡ relation_from first.0 (fields_of fields.now) }
+// The question how an event and another stand in happened-before, if the field of the other names a location.
+fn read_relation(
+    alloc: Global,
+    first: Location,
+    fields: &ByteRecord,
+) -> Result<Result<LogQuestion, BadLog>, AllocError>
+    ensures { IfOk result (λ read. plain_read read ≡ relation_from first (fields_of fields.now)) }
 {
-    match line_at(fields, 2) {
-        Some(second) => Ok(LogQuestion::Relation { first, second }),
-        None => Err(BadLog::Line),
+    match location_at(alloc, fields, 2)? {
+        Some(second) => Ok(Ok(LogQuestion::Relation { first, second })),
+        None => Ok(Err(BadLog::Line)),
     }
 }
 
@@ -113,15 +162,15 @@ fn make_question(
 ) -> Result<Result<LogQuestion, BadLog>, AllocError>
     ensures { IfOk result (λ read. plain_read read ≡ asked_by_word word (fields_of fields.now)) }
 {
-    match (word, line_at(fields, 1)) {
+    match (word, location_at(alloc, fields, 1)?) {
         (QuestionWord::Drift, _) => read_drift(alloc, field(fields, 1)),
         (_, None) => Ok(Err(BadLog::Line)),
-        (QuestionWord::Explain, Some(line)) => Ok(Ok(LogQuestion::Explain(line))),
-        (QuestionWord::Check, Some(line)) => read_check(alloc, line, fields),
-        (QuestionWord::Relation, Some(line)) => Ok(read_relation(line, fields)),
-        (QuestionWord::Influenced, Some(line)) => Ok(Ok(LogQuestion::Influenced(line))),
-        (QuestionWord::Claimed, Some(line)) => Ok(Ok(LogQuestion::Claimed(line))),
-        (QuestionWord::Event, Some(line)) => Ok(Ok(LogQuestion::Event(line))),
+        (QuestionWord::Explain, Some(event)) => Ok(Ok(LogQuestion::Explain(event))),
+        (QuestionWord::Check, Some(event)) => read_check(alloc, event, fields),
+        (QuestionWord::Relation, Some(first)) => read_relation(alloc, first, fields),
+        (QuestionWord::Influenced, Some(event)) => Ok(Ok(LogQuestion::Influenced(event))),
+        (QuestionWord::Claimed, Some(event)) => Ok(Ok(LogQuestion::Claimed(event))),
+        (QuestionWord::Event, Some(event)) => Ok(Ok(LogQuestion::Event(event))),
     }
 }
 

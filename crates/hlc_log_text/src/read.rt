@@ -2,11 +2,12 @@ ghost use Rattle.std.specs.Prelude.{◌≤◌, ℕ, All, List, [], Option, IfErr
 ghost use Rattle.hlc_log.specs.Events.{IsInRange, IsNumbered};
 ghost use Rattle.hlc_csv.specs.RecordReader.{HasReadTo};
 ghost use Rattle.hlc_log_text.specs.ReadLog.{ExplainsFault, IsReadInto, IsReadWhole, IsTextRead};
-ghost use Rattle.hlc_log_text.specs.PartialLog.{HasFewNames, IsPartialLog};
+ghost use Rattle.hlc_log_text.specs.PartialLog.{HasFewNames, IsPartialLog, KeepsMarksBy};
 
 use crate::fault::LogTextFault;
 use crate::log_rules::LogRules;
 use crate::log_text::LogText;
+use crate::name_key::NameKey;
 use crate::names::Names;
 use crate::partial_log::PartialLog;
 use csv::ByteRecord;
@@ -26,6 +27,7 @@ fn read_records<R: Read + Drop>(
     reading: &mut PartialLog,
 ) -> Result<(), LogTextFault>
     requires none_yet { IsPartialLog [] [] reading.old }
+    requires marks { KeepsMarksBy rules reading.old }
     requires most { most ≤ MAX_CAPACITY }
     ensures read { (bytes : Option (List ℕ)) → HasReadTo R.remaining input.old bytes [] []
         → MatchResult result (λ _. IsReadInto rules most bytes reading.new) (ExplainsFault rules most bytes) }
@@ -33,14 +35,14 @@ fn read_records<R: Read + Drop>(
 {
     for _count in 0..most {
         let Some(found) = input.read_record(fields)? else {
-            return Ok(());
+            return reading.end(rules.faults);
         };
         if let Some(bad) = reading.take(rules, fields, arranged, found)? {
-            return Err(LogTextFault::Bad(bad));
+            return Err(LogTextFault::Bad(reading.told_with(rules.faults, bad)?));
         }
     }
     match input.read_record(fields)? {
-        None => Ok(()),
+        None => reading.end(rules.faults),
         Some(_) => Err(LogTextFault::TooLong),
     }
 }
@@ -55,6 +57,7 @@ fn read_whole<R: Read + Drop>(
     reading: &mut PartialLog,
 ) -> Result<Names, LogTextFault>
     requires none_yet { IsPartialLog [] [] reading.old }
+    requires marks { KeepsMarksBy rules reading.old }
     requires most { most ≤ MAX_CAPACITY }
     ensures read { (bytes : Option (List ℕ)) → HasReadTo R.remaining input.old bytes [] []
         → MatchResult result (IsTextRead rules most bytes reading.new) (ExplainsFault rules most bytes) }
@@ -73,12 +76,13 @@ fn read_text<R: Read + Drop>(
     arranged: &mut ByteRecord,
     rules: LogRules,
     most: u32,
+    key: NameKey,
 ) -> Result<LogText, LogTextFault>
     requires { most ≤ MAX_CAPACITY }
     ensures { (bytes : Option (List ℕ)) → HasReadTo R.remaining input.old bytes [] []
         → MatchResult result (IsReadWhole rules most bytes) (ExplainsFault rules most bytes) }
 {
-    let mut reading = PartialLog::new(alloc);
+    let mut reading = PartialLog::new(alloc, rules, key);
     let nodes = read_whole(input, fields, arranged, rules, most, &mut reading)?;
     Ok(reading.into_text(nodes))
 }
@@ -88,11 +92,13 @@ fn read_text<R: Read + Drop>(
 /// A node or a message has the number under which its name was first mentioned, from 0; a sent message without a name has one of its own, above
 /// those. An event has the line on which its record begins, counted from 1 as an editor does. Questions may stand anywhere among the records,
 /// but not before a header. Only a log with such messages takes memory for their senders and their stamps.
+/// Names are hashed by the key.
 pub fn read_log<R: Read + Drop>(
     alloc: Global,
     reader: R,
     rules: LogRules,
     most: u32,
+    key: NameKey,
 ) -> Result<LogText, LogTextFault>
     requires { most ≤ MAX_CAPACITY }
     // The bytes are records, at most so many, each tells of an event or asks a question, but for a header and those that are left out, and their
@@ -107,5 +113,13 @@ pub fn read_log<R: Read + Drop>(
     let mut input = RecordReader::new(alloc, reader)?;
     let mut fields = ByteRecord::new(alloc);
     let mut arranged = ByteRecord::new(alloc);
-    read_text(alloc, &mut input, &mut fields, &mut arranged, rules, most)
+    read_text(
+        alloc,
+        &mut input,
+        &mut fields,
+        &mut arranged,
+        rules,
+        most,
+        key,
+    )
 }

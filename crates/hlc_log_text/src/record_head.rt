@@ -1,12 +1,13 @@
 ghost use Rattle.std.specs.Prelude.{◌≡◌, option_map};
 ghost use Rattle.csv.specs.Records.{fields_of};
-ghost use Rattle.hlc_log_text.specs.NamedEvent.{assumed_reading, before_carried, carried_head_of, has_good_names, head_of, head_with, if_reading, is_bad_reading, is_name, is_received_name, is_sent_name, label_of, message_place, name_column, number_column, reading_of, reading_with, restart_head, stamp_told, tolerated};
+ghost use Rattle.hlc_log_text.specs.NamedEvent.{assumed_reading, before_extras, has_good_names, head_of, head_with, if_reading, is_bad_reading, is_name, is_received_name, is_sent_name, label_of, message_place, name_column, number_column, reading_of, reading_with, restart_head, stamp_told, tolerated, whole_head_of};
 ghost use Rattle.hlc_log_text.specs.LogWord.{has_fields_of};
 ghost use Rattle.hlc_log_text.specs.Units.{in_unit_of_l};
 
 use crate::bad_column::bad_of_stamp;
 use crate::bad_log::BadLog;
 use crate::columns::names_sender;
+use crate::extras::Extras;
 use crate::log_column::LogColumn;
 use crate::log_rules::LogRules;
 use crate::log_word::LogWord;
@@ -15,10 +16,8 @@ use crate::units::Units;
 use csv::ByteRecord;
 use hlc_causality::MAX_FLOOR_C;
 use hlc_csv::{field, number};
+use hlc_log_line::MAX_NAME_LEN;
 use hlc_stamp::{MAX_READING, Stamp};
-
-/// The most bytes that the name of a node or of a message may have. It has one at least.
-pub const MAX_NAME_LEN: usize = 256;
 
 // Where the name of a node stands in a record.
 pub(crate) const NODE_PLACE: usize = 1;
@@ -45,8 +44,8 @@ pub(crate) struct RecordHead {
 // What a record of a log with a header tells beside the fields that have places in a log without one.
 #[derive(Clone, Copy)]
 pub(crate) struct Beside<'a> {
-    // The stamp that its message carried, if it tells that, or the column where that is badly written.
-    pub(crate) carried: Result<Option<Stamp>, LogColumn>,
+    // The stamp that it tells as carried and its seq, or the column of these that is badly written.
+    pub(crate) extras: Result<Extras, LogColumn>,
     // The field of the column `from`, if there is such a column.
     pub(crate) from: Option<&'a [u8]>,
 }
@@ -285,29 +284,29 @@ fn parse_head(
     Ok(head)
 }
 
-// The first reason of a record that is bad for this one, and by its carried stamp, which is badly written in a column.
-fn before_carried(why: BadLog, carried: LogColumn) -> BadLog
-    ensures { result ≡ before_carried why carried }
+// The first reason of a record that is bad for this one, and because its carried stamp or its seq is badly written, in a column.
+fn before_extras(why: BadLog, extra: LogColumn) -> BadLog
+    ensures { result ≡ before_extras why extra }
 {
     match why {
         BadLog::Fields | BadLog::Number(_) => why,
-        _ => BadLog::Number(carried),
+        _ => BadLog::Number(extra),
     }
 }
 
-// The same, with what the record tells of a carried stamp, if that is well written. It is a number like the others.
-pub(crate) fn parse_carrying(
+// Reads a record of a word, with the stamp that it tells as carried and its seq, which are numbers like the others, and the last.
+pub(crate) fn parse_whole(
     rules: LogRules,
     word: LogWord,
     fields: &ByteRecord,
     beside: Beside<'_>,
-) -> Result<(RecordHead, Option<Stamp>), BadLog>
-    ensures { result ≡ carried_head_of rules word (option_map (λ from. from.now) beside.entry.from) (fields_of fields.now) beside.entry.carried }
+) -> Result<(RecordHead, Extras), BadLog>
+    ensures { result ≡ whole_head_of rules word (option_map (λ from. from.now) beside.entry.from) (fields_of fields.now) beside.entry.extras }
 {
-    match (parse_head(rules, word, beside.from, fields), beside.carried) {
-        (Ok(head), Ok(carried)) => Ok((head, carried)),
+    match (parse_head(rules, word, beside.from, fields), beside.extras) {
+        (Ok(head), Ok(extras)) => Ok((head, extras)),
         (Err(why), Ok(_)) => Err(why),
         (Ok(_), Err(column)) => Err(BadLog::Number(column)),
-        (Err(why), Err(column)) => Err(before_carried(why, column)),
+        (Err(why), Err(column)) => Err(before_extras(why, column)),
     }
 }

@@ -1,10 +1,10 @@
-ghost use Rattle.std.specs.Prelude.{◌≡◌, ◌==◌, ◌-◌, ◌^◌, ◌<◌, ◌≤◌, IfSome, length, position};
+ghost use Rattle.std.specs.Prelude.{◌≡◌, ◌-◌, ◌^◌, ◌<◌, ◌≤◌};
 ghost use Rattle.csv.specs.Records.{fields_of};
-ghost use Rattle.hlc_log_text.specs.StampForms.{count_of, dotted_stamp, pair_stamp};
 
-use crate::packed_bits::PackedBits;
 use csv::ByteRecord;
 use hlc_csv::{field, number};
+use hlc_log_line::{read_dotted, read_pair};
+use hlc_packed::PackedBits;
 use hlc_stamp::Stamp;
 
 /// How stamps are written.
@@ -16,40 +16,6 @@ pub enum StampForm {
     Dotted,
     /// One number, with `c` in so many of its low bits and `l` in the others.
     Packed(PackedBits),
-}
-
-// The `c` that a field writes, if it has at most 32 bits.
-#[inline]
-fn count(field: &[u8]) -> Option<u32>
-    ensures { result ≡ count_of field.now }
-{
-    u32::try_from(number(field)?).ok()
-}
-
-// The stamp of which two fields are the numbers.
-#[inline]
-fn pair(l: &[u8], c: &[u8]) -> Option<Stamp>
-    ensures { result ≡ pair_stamp l.now c.now }
-{
-    let l = number(l)?;
-    let c = count(c)?;
-    Some(Stamp { l, c })
-}
-
-// Where the first dot of a field is.
-fn dot_in(field: &[u8]) -> Option<usize>
-    ensures dot { result ≡ position (λ byte. byte == 46) field.now }
-    ensures there { IfSome result (λ dot. dot < length field.now) }
-{
-    field.iter().position(|byte| *byte == b'.')
-}
-
-// The stamp that a field writes with a dot.
-fn dotted(field: &[u8]) -> Option<Stamp>
-    ensures { result ≡ dotted_stamp field.now }
-{
-    let dot = dot_in(field)?;
-    pair(&field[..dot], &field[dot + 1..])
 }
 
 impl StampForm {
@@ -72,8 +38,8 @@ impl StampForm {
     {
         let first = field(fields, place);
         match self {
-            StampForm::Pair => pair(first, field(fields, place + 1)),
-            StampForm::Dotted => dotted(first),
+            StampForm::Pair => read_pair(first, field(fields, place + 1)),
+            StampForm::Dotted => read_dotted(first),
             StampForm::Packed(bits) => Some(bits.unpack(number(first)?)),
         }
     }
@@ -95,8 +61,8 @@ impl StampForm {
         ensures { result ≡ fields_stamp self first.now second.now }
     {
         match self {
-            StampForm::Pair => pair(first, second),
-            StampForm::Dotted => dotted(first),
+            StampForm::Pair => read_pair(first, second),
+            StampForm::Dotted => read_dotted(first),
             StampForm::Packed(bits) => Some(bits.unpack(number(first)?)),
         }
     }

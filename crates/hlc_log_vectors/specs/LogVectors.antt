@@ -26,7 +26,8 @@ event_of opened k = event_in_order opened.log.events opened.log.order k
 abbrev pub event_text : OpenedLog → ℕ → List ℕ
 event_text opened k =
     vector_line (node_text opened.nodes) (event_of opened k).node.0 (vector_of (skeleton_of opened.log) opened.log.nodes k)
-    ++ text_of_row (event_row (node_text opened.nodes (event_of opened k).node.0) (event_of opened k) (plain_label opened.labels (place_at opened.log.order k)))
+    ++ text_of_row (event_row opened.files (node_text opened.nodes (event_of opened k).node.0) (event_of opened k)
+    (plain_label opened.labels (place_at opened.log.order k)))
 
 -- the lines of all events, in the causal order that the log is in
 abbrev pub log_vector_text : OpenedLog → List ℕ

@@ -7,6 +7,7 @@ ghost use Rattle.hlc_log_vectors.specs.EventRow.{event_row, event_word, told_fie
 use hlc_csv::RowField::{Number, Text};
 use hlc_csv::{RowBuffer, RowField};
 use hlc_log::{LogEvent, LogKind};
+use hlc_log_text::{Files, LineText};
 use std::alloc::{AllocError, Global};
 
 // The word of an event.
@@ -43,15 +44,17 @@ fn put_fields(alloc: Global, text: &mut Vec<u8>, fields: &[RowField<'_>]) -> Res
 pub(crate) fn put_row<'a>(
     alloc: Global,
     text: &mut Vec<u8>,
+    files: &Files,
     node: &'a [u8],
     event: LogEvent,
     label: Option<&'a [u8]>,
 ) -> Result<(), AllocError>
     ensures { OnOk result (text.new.items ≡ text.old.items
-        ++ text_of_row (event_row node.now event (option_map (λ label. label.now) label.entry))) }
+        ++ text_of_row (event_row files.now node.now event (option_map (λ label. label.now) label.entry))) }
 {
     let word = Text(word(event.kind));
-    let (line, node) = (Number(u64::from(event.line)), Text(node));
+    let line = LineText::new(files, u64::from(event.line))?;
+    let (line, node) = (line.field(), Text(node));
     let reading = told(event.has_reading, event.reading);
     let l = told(event.has_stamp, event.stamp.l);
     let c = told(event.has_stamp, u64::from(event.stamp.c));

@@ -10,7 +10,6 @@ use crate::event_row::put_row;
 use crate::node_names::NodeNames;
 use hlc_csv::OutputFault;
 use hlc_explain::{Vectors, vectors};
-use hlc_log_text::Labels;
 use hlc_open_log::OpenLog;
 use hlc_stamp::EventId;
 use hlc_vector_text::{NodeTexts, hand_out, plain, put_vector_line, spill};
@@ -18,10 +17,10 @@ use std::alloc::{AllocError, Global};
 use std::io::Write;
 
 // The label of the event at a place, if it has one and that is plain.
-fn plain_label(labels: &Labels, place: EventId) -> Option<&[u8]>
-    ensures { option_map (λ label. label.now) result ≡ plain_label labels.now place.0 }
+fn plain_label(log: &OpenLog, place: EventId) -> Option<&[u8]>
+    ensures { option_map (λ label. label.now) result ≡ plain_label log.now.labels place.0 }
 {
-    let label = labels.get(place)?;
+    let label = log.label(place)?;
     plain(label)
 }
 
@@ -44,8 +43,8 @@ fn put_event(
     put_vector_line(text, &nodes, event.node, vectors.vector(position))?;
     node.clear();
     nodes.put_node(node, event.node.0 as usize)?;
-    let label = plain_label(log.labels(), ordered.place(position));
-    put_row(alloc, text, node.as_slice(), event, label)
+    let label = plain_label(log, ordered.place(position));
+    put_row(alloc, text, log.files(), node.as_slice(), event, label)
 }
 
 // Writes the lines of all events, over a text for them and one for their nodes, of which nothing is written yet. Whoever owns these has few ways
@@ -71,7 +70,8 @@ fn write_events<W: Write>(
 
 /// Writes a log with the vectors of its events, as ShiViz and other tools that draw logs read it: for each event, in the causal order that the
 /// log is in, the line `NODE {"NODE":COUNT, "NODE":COUNT}`, with the nodes of which the vector counts events, and the row
-/// `WORD,LINE,NODE,READING,L,C` with its label behind it, if it has one that is printable ASCII. What the log doesn't tell is empty.
+/// `WORD,LINE,NODE,READING,L,C` with its label behind it, if it has one that is printable ASCII. In a file, LINE is `NAME:LINE`. What the log
+/// doesn't tell is empty.
 ///
 /// A node goes by its name. If that has a blank, a quotation mark, a backslash, a tilde or a byte other than printable ASCII, an underscore stands
 /// for it, and the name ends with a tilde and the node's number. It takes memory for a number for each event and node. After a fault

@@ -1,60 +1,92 @@
 -- Input that can't be opened.
-use Rattle.std.specs.Prelude.{◌≡◌, ◌⊎◌, ℕ, List, [], ◌∷◌, Option, Some, None, codes, decimal}
-use Rattle.hlc_csv.specs.Rows.{Fields, text_of_row}
+use Rattle.std.specs.Prelude.{◌≡◌, ◌≢◌, ◌⊎◌, ℕ, List, [], ◌∷◌, Option, Some, None, codes, map, option_map, slice_get}
+use Rattle.std.specs.List.{filter_map}
+use Rattle.hlc_csv.specs.Rows.{Fields, text_of}
 use Rattle.hlc_log.specs.Events.{event_at}
 use Rattle.hlc_log.specs.Faults.{IsFaultOf}
+use Rattle.hlc_log.specs.MessageFaults.{message_faults}
 use Rattle.hlc_log.specs.declared.log_event.LogEvent.{LogEvent}
+use Rattle.hlc_log.specs.declared.log_event.LogKind.{LogKind}
+use Rattle.hlc_log.specs.declared.log_event.LogKind.TheVariants.{Local, Outside, Receive, Restart, Send}
 use Rattle.hlc_log.specs.declared.order_fault.OrderFault.{OrderFault}
 use Rattle.hlc_log.specs.declared.order_fault.OrderFault.TheVariants as order
 use Rattle.hlc_log_text.specs.BadLog.{bad_log_column, bad_log_word}
+use Rattle.hlc_log_text.specs.Files.{location_of, location_text}
 use Rattle.hlc_log_text.specs.LogColumn.{column_name}
-use Rattle.hlc_log_text.specs.ReadLog.{HasTooMany, IsReadUpToBad, IsReadWhole}
-use Rattle.hlc_log_text.specs.declared.bad_log.BadLine.{BadLine}
+use Rattle.hlc_log_text.specs.ReadLog.{HasTooMany, IsReadUpToBad, IsReadWhole, IsReadWithBad}
+use Rattle.hlc_log_text.specs.declared.bad_log.BadRecord.{BadRecord}
 use Rattle.hlc_log_text.specs.declared.fault.LogTextFault.{LogTextFault}
 use Rattle.hlc_log_text.specs.declared.fault.LogTextFault.TheVariants as text
-use Rattle.hlc_log_text.specs.declared.log_column.LogColumn.{LogColumn}
+use Rattle.hlc_log_text.specs.declared.fault_rule.FaultRule.{FaultRule}
+use Rattle.hlc_log_text.specs.declared.fault_rule.FaultRule.TheVariants.{LeaveOut, TellEach}
+use Rattle.hlc_log_text.specs.declared.file_mark.FileMark.{FileMark}
+use Rattle.hlc_log_text.specs.declared.location.Location.{Location}
 use Rattle.hlc_log_text.specs.declared.log_rules.LogRules.{LogRules}
 use Rattle.hlc_log_text.specs.declared.log_text.LogText.{LogText}
 use Rattle.hlc_open_log.specs.Opened.{opened_events}
+use Rattle.hlc_open_log.specs.declared.bad_event.BadEvent.{BadEvent}
+use Rattle.hlc_open_log.specs.declared.bad_event.Disorder.{Disorder}
+use Rattle.hlc_open_log.specs.declared.bad_event.Disorder.TheVariants.{Cycle, SentTwice, Unsent}
 use Rattle.hlc_open_log.specs.declared.bad_input.BadInput.{BadInput}
-use Rattle.hlc_open_log.specs.declared.bad_input.BadReason.{BadReason}
-use Rattle.hlc_open_log.specs.declared.bad_input.BadReason.TheVariants as bad
+use Rattle.hlc_open_log.specs.declared.bad_input.BadInput.TheVariants.{Events, Records}
 use Rattle.hlc_open_log.specs.declared.fault.OpenFault.{OpenFault}
 use Rattle.hlc_open_log.specs.declared.fault.OpenFault.TheVariants as fault
 
--- the word of the row that answers bad input
-abbrev pub reason_word : BadReason → List ℕ
-reason_word (bad.Record why) = bad_log_word why
-reason_word bad.SentTwice = codes "sent-twice"
-reason_word bad.Unsent = codes "unsent"
-reason_word bad.Cycle = codes "cycle"
+-- the word of the row of an event for which a log has no causal order
+abbrev pub disorder_word : Disorder → List ℕ
+disorder_word (SentTwice message) = codes "sent-twice"
+disorder_word (Unsent message) = codes "unsent"
+disorder_word Cycle = codes "cycle"
 
--- the column that the row names besides, if it names one
-abbrev pub reason_column : BadReason → Option LogColumn
-reason_column (bad.Record why) = bad_log_column why
-reason_column bad.SentTwice = None
-reason_column bad.Unsent = None
-reason_column bad.Cycle = None
+-- the name of the message that the row names besides, if that has one
+abbrev pub disorder_name : Disorder → Option (List ℕ)
+disorder_name (SentTwice message) = message
+disorder_name (Unsent message) = message
+disorder_name Cycle = None
 
--- the field of a column's name, if there is a column
-abbrev pub column_part : Option LogColumn → Fields
-column_part None = []
-column_part (Some column) = column_name column ∷ []
+-- the field of a name, if there is one
+abbrev pub name_part : Option (List ℕ) → Fields
+name_part None = []
+name_part (Some name) = name ∷ []
 
--- the row of the line at which input is bad
-abbrev pub bad_row : BadInput → Fields
-bad_row b = codes "bad" ∷ decimal b.line ∷ reason_word b.why ∷ column_part (reason_column b.why)
+-- the row of a line that is bad: where it stands, the word that says why, and what it is about, if that has a name
+abbrev pub bad_row : Location → (word : List ℕ) → (name : Option (List ℕ)) → Fields
+bad_row location word name = codes "bad" ∷ location_text location ∷ word ∷ name_part name
 
--- the same as text
+-- that of a bad record, which names its column
+abbrev pub bad_record_row : BadRecord → Fields
+bad_record_row b = bad_row b.location (bad_log_word b.why) (option_map column_name (bad_log_column b.why))
+
+-- and that of an event for which there is no causal order, which names its message
+abbrev pub bad_event_row : BadEvent → Fields
+bad_event_row b = bad_row b.location (disorder_word b.why) (disorder_name b.why)
+
+-- the rows of bad records, and of events without an order, as text
+abbrev pub records_text : List BadRecord → List ℕ
+records_text records = text_of (map bad_record_row records)
+
+abbrev pub events_text : List BadEvent → List ℕ
+events_text events = text_of (map bad_event_row events)
+
+-- what answers bad input
 abbrev pub bad_text : BadInput → List ℕ
-bad_text b = text_of_row (bad_row b)
+bad_text (Records records) = records_text records.items
+bad_text (Events events) = events_text events.items
 
--- why a log with this fault is bad; out of memory is no reason
-abbrev pub order_reason : OrderFault → Option BadReason
-order_reason (order.SentTwice e) = Some bad.SentTwice
-order_reason (order.Unsent e) = Some bad.Unsent
-order_reason (order.Cycle e) = Some bad.Cycle
-order_reason order.Memory = None
+-- the name of the message of an event of a kind, if it has a message, and that one of these names
+abbrev pub message_name : (names : List (List ℕ)) → LogKind → Option (List ℕ)
+message_name names Local = None
+message_name names (Send message) = slice_get names message.0
+message_name names (Receive message) = slice_get names message.0
+message_name names Restart = None
+message_name names Outside = None
+
+-- what a fault of a log tells of its event, whose message has this name; out of memory tells of none
+abbrev pub disorder_of : (message : Option (List ℕ)) → OrderFault → Option Disorder
+disorder_of message (order.SentTwice e) = Some (SentTwice message)
+disorder_of message (order.Unsent e) = Some (Unsent message)
+disorder_of message (order.Cycle e) = Some Cycle
+disorder_of message order.Memory = None
 
 -- the event that a fault of a log names
 abbrev pub order_fault_place : OrderFault → ℕ
@@ -63,42 +95,64 @@ order_fault_place (order.Unsent e) = e.0
 order_fault_place (order.Cycle e) = e.0
 order_fault_place order.Memory = 0
 
--- events have no causal order for this reason, at the line of the event that their fault names
-pub record HasNoOrder (events : List LogEvent) (b : BadInput) : Type 0 where
+-- the event of a fault, as it is told of a log of some files whose messages have these names: where its record stands, and what is wrong with it
+abbrev pub bad_event : List FileMark → (names : List (List ℕ)) → List LogEvent → OrderFault → Option BadEvent
+bad_event files names events fault =
+    let event = event_at events (order_fault_place fault) in
+    option_map (λ why. record { location = location_of files event.line; why = why }) (disorder_of (message_name names event.kind) fault)
+
+-- the faults that are told of a log in which this one is the first: if each is to be told, and it is of a message, all of messages; else it alone
+abbrev pub told_faults : FaultRule → List LogEvent → OrderFault → List OrderFault
+told_faults TellEach events (order.SentTwice e) = message_faults events
+told_faults TellEach events (order.Unsent e) = message_faults events
+told_faults _ events fault = fault ∷ []
+
+-- a log isn't opened for a fault: events that wait are left out if bad records are
+abbrev pub IsRefused : FaultRule → OrderFault → Type 0
+IsRefused LeaveOut (order.Cycle e) = ⊥
+IsRefused _ fault = Unit {0}
+
+-- events, whose messages have these names, have no causal order, and these are told, of some files
+pub record HasNoOrder (rule : FaultRule) (files : List FileMark) (names : List (List ℕ)) (events : List LogEvent) (told : List BadEvent) : Type 0 where
   pub fault : OrderFault
   pub is_fault : IsFaultOf events fault
-  pub reason : order_reason fault ≡ Some b.why
-  pub line : b.line ≡ (event_at events (order_fault_place fault)).line
+  pub known : fault ≢ order.Memory
+  pub refused : IsRefused rule fault
+  pub told_are : told ≡ filter_map (bad_event files names events) (told_faults rule events fault)
 
 -- what a fault tells of events that are put in a causal order
-abbrev pub TellsDisorder : List LogEvent → OpenFault → Type 0
-TellsDisorder events (fault.Bad b) = HasNoOrder events b
-TellsDisorder events fault.Read = ⊥
-TellsDisorder events fault.TooLong = ⊥
-TellsDisorder events fault.Memory = Unit {0}
-
--- the input whose record on a line is bad
-abbrev pub bad_record : BadLine → BadInput
-bad_record b = record { line = b.line; why = bad.Record b.why }
+abbrev pub TellsDisorder : FaultRule → List FileMark → (names : List (List ℕ)) → List LogEvent → OpenFault → Type 0
+TellsDisorder rule files names events (fault.Bad (Records records)) = ⊥
+TellsDisorder rule files names events (fault.Bad (Events told)) = HasNoOrder rule files names events told.items
+TellsDisorder rule files names events fault.Read = ⊥
+TellsDisorder rule files names events fault.TooLong = ⊥
+TellsDisorder rule files names events fault.Memory = Unit {0}
 
 -- a fault of reading, as one of opening
 abbrev pub read_fault : LogTextFault → OpenFault
-read_fault (text.Bad b) = fault.Bad (bad_record b)
+read_fault (text.Bad records) = fault.Bad (Records records)
 read_fault text.Read = fault.Read
 read_fault text.TooLong = fault.TooLong
 read_fault text.Memory = fault.Memory
 
--- bytes begin with records of a log and then a bad one, on this line and for this reason
-abbrev pub IsRecordBad : LogRules → (most : ℕ) → (bytes : Option (List ℕ)) → BadInput → Type 0
-IsRecordBad rules most bytes b = (line : BadLine) × IsReadUpToBad rules most bytes line × (b ≡ bad_record line)
+-- records of the bytes are bad, and these are told
+abbrev pub AreRecordsBad : LogRules → (most : ℕ) → (bytes : Option (List ℕ)) → List BadRecord → Type 0
+AreRecordsBad rules most bytes told = IsReadUpToBad rules most bytes told ⊎ IsReadWithBad rules most bytes told
 
--- bytes are a log that has no causal order for this reason, at this line
-abbrev pub IsOrderBad : LogRules → (most : ℕ) → (bytes : Option (List ℕ)) → BadInput → Type 0
-IsOrderBad rules most bytes b = (text : LogText) × IsReadWhole rules most bytes text × HasNoOrder (opened_events rules text.messages text.log.events) b
+-- the bytes are a log that has no causal order, and these of its events are told
+abbrev pub IsOrderBad : LogRules → (most : ℕ) → (bytes : Option (List ℕ)) → List BadEvent → Type 0
+IsOrderBad rules most bytes told =
+    (text : LogText) × IsReadWhole rules most bytes text
+    × HasNoOrder rules.faults text.files text.message_names (opened_events rules text.messages text.log.events) told
+
+-- the bytes can't be opened as a log for this reason
+abbrev pub IsBadInput : LogRules → (most : ℕ) → (bytes : Option (List ℕ)) → BadInput → Type 0
+IsBadInput rules most bytes (Records records) = AreRecordsBad rules most bytes records.items
+IsBadInput rules most bytes (Events events) = IsOrderBad rules most bytes events.items
 
 -- what a fault tells of the bytes
 abbrev pub ExplainsOpenFault : LogRules → (most : ℕ) → (bytes : Option (List ℕ)) → OpenFault → Type 0
-ExplainsOpenFault rules most bytes (fault.Bad b) = IsRecordBad rules most bytes b ⊎ IsOrderBad rules most bytes b
+ExplainsOpenFault rules most bytes (fault.Bad bad) = IsBadInput rules most bytes bad
 ExplainsOpenFault rules most bytes fault.Read = Unit {0}
 ExplainsOpenFault rules most bytes fault.TooLong = HasTooMany rules most bytes
 ExplainsOpenFault rules most bytes fault.Memory = Unit {0}

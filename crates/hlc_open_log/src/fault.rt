@@ -1,13 +1,13 @@
 ghost use Rattle.std.specs.Prelude.{◌≡◌};
 
-use crate::bad_input::{BadInput, BadReason};
+use crate::bad_input::BadInput;
 use hlc_csv::RecordsFault;
 use hlc_log_text::LogTextFault;
 use std::alloc::AllocError;
 use thiserror::Error;
 
 /// Why a log could not be opened.
-#[derive(Clone, Copy, Debug, Drop, Error)]
+#[derive(Debug, Drop, Error)]
 pub enum OpenFault {
     /// The input is bad.
     #[error("the input is no log")]
@@ -40,10 +40,7 @@ impl From<LogTextFault> for OpenFault {
 
     fn from(fault: LogTextFault) -> OpenFault {
         match fault {
-            LogTextFault::Bad(bad) => OpenFault::Bad(BadInput {
-                line: bad.line,
-                why: BadReason::Record(bad.why),
-            }),
+            LogTextFault::Bad(records) => OpenFault::Bad(BadInput::Records(records)),
             LogTextFault::Read => OpenFault::Read,
             LogTextFault::TooLong => OpenFault::TooLong,
             LogTextFault::Memory => OpenFault::Memory,

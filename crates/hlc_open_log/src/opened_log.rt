@@ -1,5 +1,9 @@
+ghost use Rattle.std.specs.Prelude.{◌≡◌, option_map};
+ghost use Rattle.hlc_stamp.specs.Ids.{places_of};
+ghost use Rattle.hlc_open_log.specs.Opened.{place_read};
+
 use hlc_log_report::OrderedLog;
-use hlc_log_text::{BadLine, Labels, LogQuestion, Names, Skipped};
+use hlc_log_text::{BadLine, Files, Labels, LogQuestion, Names, Skipped};
 use hlc_stamp::EventId;
 use std::alloc::{AllocError, Global};
 use std::marker::Model;
@@ -8,8 +12,11 @@ use std::marker::Model;
 #[derive(Drop)]
 pub struct OpenLog {
     pub(crate) ordered: OrderedLog,
+    pub(crate) files: Files,
     pub(crate) nodes: Names,
+    // By the places that events had in the log that was read: if not all are opened, those of them that are.
     pub(crate) labels: Labels,
+    pub(crate) kept: Option<Vec<EventId>>,
     pub(crate) questions: Vec<LogQuestion>,
     pub(crate) unsent: Option<u32>,
     pub(crate) resent: Option<u32>,
@@ -19,14 +26,17 @@ pub struct OpenLog {
 }
 
 impl Model for OpenLog {
-    ghost use Rattle.hlc_open_log.specs.Opened.{IsOpen, OpenedLog};
+    ghost use Rattle.std.specs.Prelude.{option_map};
+    ghost use Rattle.hlc_stamp.specs.Ids.{places_of};
+    ghost use Rattle.hlc_open_log.specs.Opened.{IsOpen, OpenedLog, labels_kept};
 
     ghost Value = { OpenedLog };
 
     ghost view = { λ a. record {
       log = a.ordered;
+      files = a.files;
       nodes = a.nodes;
-      labels = a.labels;
+      labels = labels_kept (option_map (λ kept. places_of kept.items) a.kept) a.labels;
       questions = a.questions.items;
       unsent = a.unsent;
       resent = a.resent;
@@ -37,8 +47,9 @@ impl Model for OpenLog {
 
     ghost invariant = { λ a. IsOpen (record {
       log = a.ordered;
+      files = a.files;
       nodes = a.nodes;
-      labels = a.labels;
+      labels = labels_kept (option_map (λ kept. places_of kept.items) a.kept) a.labels;
       questions = a.questions.items;
       unsent = a.unsent;
       resent = a.resent;
@@ -48,12 +59,23 @@ impl Model for OpenLog {
     }) };
 }
 
+// Where the event at a place stood in the log that was read, if only those at the kept places are opened.
+fn place_read(kept: &Option<Vec<EventId>>, place: EventId) -> Option<EventId>
+    ensures { option_map (λ read. read.0) result ≡ place_read (option_map (λ kept. places_of kept.items) kept.now) place.0 }
+{
+    match kept {
+        Some(kept) => kept.get(place.0 as usize).copied(),
+        None => Some(place),
+    }
+}
+
 impl OpenLog {
-    ghost use Rattle.std.specs.Prelude.{◌≡◌, ◌≤◌, OnOk, length};
+    ghost use Rattle.std.specs.Prelude.{◌≡◌, ◌≤◌, OnOk, length, option_map};
     ghost use Rattle.hlc_stamp.specs.Ids.{places_of};
     ghost use Rattle.hlc_log.specs.CausalOrder.{IsCausalOrder};
     ghost use Rattle.hlc_log.specs.declared.log_event.TheConstants.{MAX_LOG_NODES};
     ghost use Rattle.hlc_log_report.specs.InOrder.{IsInOrder};
+    ghost use Rattle.hlc_log_text.specs.Labels.{label_at};
     ghost use Rattle.hlc_open_log.specs.Opened.{IsOpen, IsReordered, LinesRise};
 
     /// The log in order.
@@ -78,6 +100,13 @@ impl OpenLog {
         self.ordered.reorder(alloc, order)
     }
 
+    /// The files in which its records stand.
+    pub fn files(&self) -> &Files
+        ensures { result.now ≡ self.now.files }
+    {
+        &self.files
+    }
+
     /// The names of its nodes.
     pub fn nodes(&self) -> &Names
         ensures value { result.now ≡ self.now.nodes }
@@ -86,11 +115,11 @@ impl OpenLog {
         &self.nodes
     }
 
-    /// The labels of its events.
-    pub fn labels(&self) -> &Labels
-        ensures { result.now ≡ self.now.labels }
+    /// The label of the event at a place, if it has one.
+    pub fn label(&self, place: EventId) -> Option<&[u8]>
+        ensures { option_map (λ label. label.now) result ≡ label_at self.now.labels place.0 }
     {
-        &self.labels
+        self.labels.get(place_read(&self.kept, place)?)
     }
 
     /// What is asked in it.
@@ -121,7 +150,7 @@ impl OpenLog {
         self.skipped
     }
 
-    /// The records that are bad and were left out, in the order of their lines.
+    /// The records that are bad and were left out, in the order of their lines; then those of events that have no place in any causal order.
     pub fn left_out(&self) -> &[BadLine]
         ensures { result.now ≡ self.now.left_out }
     {

@@ -4,7 +4,7 @@ use Rattle.hlc_stamp.specs.declared.id.EventId.{EventId}
 use Rattle.hlc_stamp.specs.declared.settings.Settings.{Settings}
 use Rattle.hlc_command_line.specs.declared.line_order.DrawLogOptions.{DrawLogOptions}
 use Rattle.hlc_command_fault.specs.declared.command_fault.CommandFault.{CommandFault}
-use Rattle.hlc_script_commands.specs.Drawn.{IsDrawnWhole, IsDrawnWithout}
+use Rattle.hlc_script_commands.specs.Drawn.{IsChainDrawnWhole, IsChainDrawnWithout, IsDrawnWhole, IsDrawnWithout}
 use Rattle.hlc_log_commands.specs.DrawnLog.{IsLogDrawnBut, IsLogDrawnWhole}
 use Rattle.hlc_page.specs.Answer.{IsAnswer, IsPictureWhole, IsPictureWithout, event_of, settings_of}
 
@@ -36,6 +36,22 @@ drawn_without_by_numbers settings explained from to nodes capacity limit e f t t
     by_numbers (λ s x y z. IsDrawnWithout s x y z (Some text) (Some []) (Some answer)) settings explained from to nodes capacity limit e f t
     settings_is explained_is from_is to_is
     (subst (λ (b : List ℕ). IsDrawnWithout settings explained from to (Some text) (Some b) (Some answer)) empty drawn)
+
+pub chain_drawn_by_numbers : (settings : Settings) (event : EventId) (nodes capacity limit : ℕ) (text before answer : List ℕ)
+    → settings ≡ settings_of nodes capacity limit → before ≡ []
+    → IsChainDrawnWhole settings event (Some text) (Some before) (Some answer)
+    → IsAnswer (IsChainDrawnWhole (settings_of nodes capacity limit) event) text answer
+chain_drawn_by_numbers settings event nodes capacity limit text before answer settings_is empty drawn =
+    subst (λ (s : Settings). IsChainDrawnWhole s event (Some text) (Some []) (Some answer)) settings_is
+    (subst (λ (b : List ℕ). IsChainDrawnWhole settings event (Some text) (Some b) (Some answer)) empty drawn)
+
+pub chain_drawn_without_by_numbers : (settings : Settings) (event : EventId) (nodes capacity limit : ℕ) (text before answer : List ℕ)
+    → settings ≡ settings_of nodes capacity limit → before ≡ []
+    → IsChainDrawnWithout settings event (Some text) (Some before) (Some answer)
+    → IsAnswer (IsChainDrawnWithout (settings_of nodes capacity limit) event) text answer
+chain_drawn_without_by_numbers settings event nodes capacity limit text before answer settings_is empty drawn =
+    subst (λ (s : Settings). IsChainDrawnWithout s event (Some text) (Some []) (Some answer)) settings_is
+    (subst (λ (b : List ℕ). IsChainDrawnWithout settings event (Some text) (Some b) (Some answer)) empty drawn)
 
 pub log_drawn : (options : DrawLogOptions) (text before answer : List ℕ) → before ≡ []
     → IsLogDrawnWhole options (Some text) (Some before) (Some answer) → IsAnswer (IsLogDrawnWhole options) text answer

@@ -18,15 +18,18 @@ use Rattle.hlc_log_audit.specs.declared.outcome.Outcome.{Outcome}
 use Rattle.hlc_log_audit.specs.declared.outcome.Outcome.TheVariants.{BadLog, Broken, OverLimit, Sound}
 use Rattle.hlc_log_audit.specs.declared.rules.AuditRules.{AuditRules}
 use Rattle.hlc_command_line.specs.declared.line_order.DrawLogOptions.{DrawLogOptions}
-use Rattle.hlc_command_line.specs.declared.line_order.LogPart.TheVariants.{Rows}
-use Rattle.hlc_command_line.specs.declared.line_order.LogRows.TheVariants.{Between}
+use Rattle.hlc_command_line.specs.declared.line_order.LogLine.{LogLine}
+use Rattle.hlc_command_line.specs.declared.line_order.LogLine.TheVariants.{Counted}
+use Rattle.hlc_command_line.specs.declared.line_order.LogPart.{LogPart}
+use Rattle.hlc_command_line.specs.declared.line_order.LogPart.TheVariants.{Chain, Rows}
+use Rattle.hlc_command_line.specs.declared.line_order.LogRows.TheVariants.{Around, Between}
 use Rattle.hlc_command_fault.specs.declared.command_fault.CommandFault.{CommandFault}
 use Rattle.hlc_command_fault.specs.declared.command_fault.CommandFault.TheVariants as stop
 use Rattle.hlc_trace.specs.Trace.{IsJudged}
 use Rattle.hlc_seeded.specs.Storm.{storm_of}
 use Rattle.hlc_text.specs.Steps.{printed_text}
 use Rattle.hlc_script_commands.specs.Answered.{IsScriptAnswered}
-use Rattle.hlc_script_commands.specs.Drawn.{IsDrawnWhole, IsDrawnWithout}
+use Rattle.hlc_script_commands.specs.Drawn.{IsChainDrawnWhole, IsChainDrawnWithout, IsDrawnWhole, IsDrawnWithout}
 use Rattle.hlc_log_commands.specs.DrawnLog.{IsLogDrawnBut, IsLogDrawnWhole}
 use Rattle.hlc_page.specs.declared.status.TheConstants.{PAGE_BAD_LOG, PAGE_BROKEN, PAGE_NO_EVENT, PAGE_OK, PAGE_OVER_LIMIT}
 
@@ -38,9 +41,9 @@ limit_of number = if number == 2 ^ 64 - 1 then None else Some number
 abbrev pub event_of : ℕ → Option EventId
 event_of number = if number == 2 ^ 32 - 1 then None else Some (record { 0 = number })
 
--- a line as a number: the greatest names none
-abbrev pub line_of : ℕ → Option ℕ
-line_of number = if number == 2 ^ 32 - 1 then None else Some number
+-- a line of a log as a number, counted over all files: the greatest names none
+abbrev pub line_of : ℕ → Option LogLine
+line_of number = if number == 2 ^ 32 - 1 then None else Some (Counted number)
 
 -- the settings of which these are the numbers
 abbrev pub settings_of : (nodes capacity limit : ℕ) → Settings
@@ -84,6 +87,12 @@ abbrev pub IsPicture : (nodes capacity limit explained from to : ℕ) → (scrip
 IsPicture nodes capacity limit explained from to script status answer =
     ((status ≡ PAGE_OK) × IsPictureWhole nodes capacity limit explained from to script answer)
     ⊎ ((status ≡ PAGE_NO_EVENT) × IsPictureWithout nodes capacity limit explained from to script answer)
+
+-- these bytes are the picture of the chain of that event, and the status says whether the script leaves it
+abbrev pub IsChainPicture : (nodes capacity limit event : ℕ) → (script : List ℕ) → (status : ℕ) → (answer : List ℕ) → Type 0
+IsChainPicture nodes capacity limit event script status answer =
+    ((status ≡ PAGE_OK) × IsAnswer (IsChainDrawnWhole (settings_of nodes capacity limit) (record { 0 = event })) script answer)
+    ⊎ ((status ≡ PAGE_NO_EVENT) × IsAnswer (IsChainDrawnWithout (settings_of nodes capacity limit) (record { 0 = event })) script answer)
 
 -- these bytes are what the program writes if it judges that trace
 abbrev pub IsVerdicts : (trace : List ℕ) → (status : ℕ) → (answer : List ℕ) → Type 0
@@ -131,8 +140,16 @@ IsLogTooLong form tolerance receives log =
     (rules : LogRules) × (rules.syntax ≡ Csv) × IsFormOf form rules.form × (rules.units ≡ None) × (rules.tolerance ≡ tolerance)
     × (rules.receives ≡ receives_of receives) × (rules.faults ≡ First) × HasTooMany rules MAX_CAPACITY (Some log)
 
--- these are the options to draw a log of which these are the numbers
-pub record AreDrawingOf (form tolerance receives : ℕ) (unsent_local : Bool) (explained from to : ℕ) (options : DrawLogOptions) : Type 0 where
+-- the rows of a log from one event to another
+abbrev pub part_between : (explained from to : ℕ) → LogPart
+part_between explained from to = Rows (Between (line_of from) (line_of to)) (line_of explained)
+
+-- so many rows of a log about the event on a line, or with 0 rows the chain of that event alone
+abbrev pub part_around : (explained line rows : ℕ) → LogPart
+part_around explained line rows = if rows == 0 then Chain (Counted line) else Rows (Around (Counted line) rows) (line_of explained)
+
+-- these are the options to draw a part of a log of which these are the numbers
+pub record AreDrawingOf (form tolerance receives : ℕ) (unsent_local : Bool) (part : LogPart) (options : DrawLogOptions) : Type 0 where
   pub syntax_is : options.records.syntax ≡ Csv
   pub form_is : IsFormOf form options.records.form
   pub units_are : options.records.units ≡ None
@@ -141,22 +158,32 @@ pub record AreDrawingOf (form tolerance receives : ℕ) (unsent_local : Bool) (e
   pub unsent_is : options.records.unsent_local ≡ unsent_local
   pub resent_is : options.records.resent ≡ None
   pub faults_are : options.records.faults ≡ First
-  pub part_is : options.part ≡ Rows (Between (line_of from) (line_of to)) (line_of explained)
+  pub part_is : options.part ≡ part
 
--- these bytes are what the program writes if it draws that log by these numbers
-abbrev pub IsLogPicture : (form tolerance receives : ℕ) (unsent_local : Bool) (explained from to : ℕ) → (log answer : List ℕ) → Type 0
-IsLogPicture form tolerance receives unsent_local explained from to log answer =
-    (options : DrawLogOptions) × AreDrawingOf form tolerance receives unsent_local explained from to options × IsAnswer (IsLogDrawnWhole options) log answer
+-- these bytes are what the program writes if it draws a part of that log by these numbers
+abbrev pub IsLogPicture : (form tolerance receives : ℕ) (unsent_local : Bool) → LogPart → (log answer : List ℕ) → Type 0
+IsLogPicture form tolerance receives unsent_local part log answer =
+    (options : DrawLogOptions) × AreDrawingOf form tolerance receives unsent_local part options × IsAnswer (IsLogDrawnWhole options) log answer
 
 -- these bytes are what it writes if it does that but for this fault, which they report
-abbrev pub IsLogPictureBut : CommandFault → (form tolerance receives : ℕ) (unsent_local : Bool) (explained from to : ℕ) → (log answer : List ℕ) → Type 0
-IsLogPictureBut fault form tolerance receives unsent_local explained from to log answer =
-    (options : DrawLogOptions) × AreDrawingOf form tolerance receives unsent_local explained from to options × IsAnswer (IsLogDrawnBut fault options) log answer
+abbrev pub IsLogPictureBut : CommandFault → (form tolerance receives : ℕ) (unsent_local : Bool) → LogPart → (log answer : List ℕ) → Type 0
+IsLogPictureBut fault form tolerance receives unsent_local part log answer =
+    (options : DrawLogOptions) × AreDrawingOf form tolerance receives unsent_local part options × IsAnswer (IsLogDrawnBut fault options) log answer
 
--- these bytes are the picture of that log, or tell why there is none, as the status does
+-- these bytes are the picture of a part of that log, or tell why there is none, as the status does
+abbrev pub IsPartAnswer : (form tolerance receives : ℕ) (unsent_local : Bool) → LogPart
+    → (log : List ℕ) → (status : ℕ) → (answer : List ℕ) → Type 0
+IsPartAnswer form tolerance receives unsent_local part log status answer =
+    ((status ≡ PAGE_OK) × IsLogPicture form tolerance receives unsent_local part log answer)
+    ⊎ (((status ≡ PAGE_NO_EVENT) × IsLogPictureBut stop.NoEvent form tolerance receives unsent_local part log answer)
+    ⊎ ((status ≡ PAGE_BAD_LOG) × IsLogPictureBut stop.BadLog form tolerance receives unsent_local part log answer))
+
+-- so it is of its rows from one event to another
 abbrev pub IsLogAnswer : (form tolerance receives : ℕ) (unsent_local : Bool) (explained from to : ℕ)
     → (log : List ℕ) → (status : ℕ) → (answer : List ℕ) → Type 0
-IsLogAnswer form tolerance receives unsent_local explained from to log status answer =
-    ((status ≡ PAGE_OK) × IsLogPicture form tolerance receives unsent_local explained from to log answer)
-    ⊎ (((status ≡ PAGE_NO_EVENT) × IsLogPictureBut stop.NoEvent form tolerance receives unsent_local explained from to log answer)
-    ⊎ ((status ≡ PAGE_BAD_LOG) × IsLogPictureBut stop.BadLog form tolerance receives unsent_local explained from to log answer))
+IsLogAnswer form tolerance receives unsent_local explained from to = IsPartAnswer form tolerance receives unsent_local (part_between explained from to)
+
+-- so it is of so many rows about an event, or of its chain
+abbrev pub IsAroundAnswer : (form tolerance receives : ℕ) (unsent_local : Bool) (explained line rows : ℕ)
+    → (log : List ℕ) → (status : ℕ) → (answer : List ℕ) → Type 0
+IsAroundAnswer form tolerance receives unsent_local explained line rows = IsPartAnswer form tolerance receives unsent_local (part_around explained line rows)

@@ -10,6 +10,7 @@ use crate::status::{
 };
 use hlc_command_fault::CommandFault;
 use hlc_log_audit::{Outcome, audit_run};
+use hlc_log_text::NameKey;
 use std::alloc::Global;
 
 // The status that says what an audit found.
@@ -55,7 +56,7 @@ pub extern "C" fn hlc_page_audit(
         report,
     );
     let mut rows = Vec::new(alloc);
-    match audit_run(alloc, log, &mut rows, rules, &[]) {
+    match audit_run(alloc, log, &mut rows, rules, &[], NameKey::fixed()) {
         Ok(audited) => put(&rows, outcome_status(audited.outcome), room, told),
         Err(fault) => status(CommandFault::from(fault)),
     }

@@ -6,9 +6,11 @@ use crate::options::drawing;
 use crate::room::put;
 use crate::status::{PAGE_BAD_LOG, PAGE_NO_EVENT, PAGE_OK, PAGE_SETTINGS, PAGE_TOO_LONG, status};
 use hlc_log_commands::{CommandFault, draw_log};
+use hlc_log_text::NameKey;
 use std::alloc::Global;
 
-/// Draws a log, as `hlc draw-log` does. Stamps, readings and receives are as `hlc_page_audit` has them, and the number 2^32 - 1 names no line.
+/// Draws a log, as `hlc draw-log` does. Stamps, readings and receives are as `hlc_page_audit` has them. Lines are counted
+/// over all files, and the number 2^32 - 1 names none.
 #[unsafe(no_mangle)]
 pub extern "C" fn hlc_page_draw_log(
     alloc: Global,
@@ -37,10 +39,11 @@ pub extern "C" fn hlc_page_draw_log(
         to,
     );
     let mut picture = Vec::new(alloc);
-    match draw_log(alloc, log, &mut picture, options, None) {
+    match draw_log(alloc, log, &mut picture, options, None, NameKey::fixed()) {
         Ok(()) => put(&picture, PAGE_OK, room, told),
         Err(CommandFault::NoEvent) => put(&picture, PAGE_NO_EVENT, room, told),
         Err(CommandFault::BadLog) => put(&picture, PAGE_BAD_LOG, room, told),
+        Err(CommandFault::LogTooLong { .. }) => PAGE_TOO_LONG,
         Err(fault) => status(fault),
     }
 }

@@ -5,8 +5,8 @@
 //! room is too small, nothing is put there, and the page calls again with as much room as it was told. What a status says is the same
 //! for all exports, `IsStatusOf`; they differ in the answers that there are, and in what they refuse.
 //!
-//! - `hlc_page_run` answers a script, and `hlc_page_draw` draws the history that it leaves.
-//! - `hlc_page_judge` judges a trace, `hlc_page_audit` audits a log, and `hlc_page_draw_log` draws it.
+//! - `hlc_page_run` answers a script, `hlc_page_draw` draws the history that it leaves, and `hlc_page_draw_chain` the chain of one event alone.
+//! - `hlc_page_judge` judges a trace, `hlc_page_audit` audits a log, and `hlc_page_draw_log` and `hlc_page_draw_log_around` draw parts of it.
 //! - `hlc_page_storm` prints a script that is drawn from a seed.
 //!
 //! No call keeps anything. `packaging/page` makes the module, and the page around it.
@@ -14,7 +14,9 @@
 
 mod audit;
 mod draw;
+mod draw_chain;
 mod draw_log;
+mod draw_log_around;
 mod judge;
 mod options;
 mod room;
@@ -24,7 +26,9 @@ mod storm;
 
 pub use audit::hlc_page_audit;
 pub use draw::hlc_page_draw;
+pub use draw_chain::hlc_page_draw_chain;
 pub use draw_log::hlc_page_draw_log;
+pub use draw_log_around::hlc_page_draw_log_around;
 pub use judge::hlc_page_judge;
 pub use run::hlc_page_run;
 pub use status::{

@@ -3,12 +3,12 @@
 ghost use Rattle.std.specs.Prelude.{◌≡◌, ◌↔◌, IfSome, IsNone, IsSome, None};
 ghost use Rattle.hlc_core.specs.State.{new_refusal};
 ghost use Rattle.hlc_seeded.specs.Storm.{are_settings};
-ghost use Rattle.hlc_page.specs.Answer.{AreDrawingOf, AreRulesOf, IsFormOf, event_of, limit_of, line_of, receives_of, settings_of};
+ghost use Rattle.hlc_page.specs.Answer.{AreDrawingOf, AreRulesOf, IsFormOf, event_of, limit_of, line_of, part_around, part_between, receives_of, settings_of};
 ghost use Rattle.hlc_log_text.specs.declared.fault_rule.FaultRule.TheVariants.{First};
 ghost use Rattle.hlc_log_text.specs.declared.record_syntax.RecordSyntax.TheVariants.{Csv};
 
 use hlc_causality::Receives;
-use hlc_command_line::{DrawLogOptions, LogPart, LogRows};
+use hlc_command_line::{DrawLogOptions, LogLine, LogPart, LogRows};
 use hlc_log_audit::AuditRules;
 use hlc_log_text::{FaultRule, LogRules, PackedBits, RecordSyntax, StampForm};
 use hlc_stamp::{
@@ -63,14 +63,14 @@ pub(crate) fn event(number: u32) -> Option<EventId>
     }
 }
 
-// The line that is named: the greatest number names none.
-fn line(number: u32) -> Option<u32>
+// The line that is named, as the page's editor counts it, over all files: the greatest number names none.
+fn line(number: u32) -> Option<LogLine>
     ensures { result ≡ line_of number }
 {
     if number == u32::MAX {
         None
     } else {
-        Some(number)
+        Some(LogLine::Counted(number))
     }
 }
 
@@ -151,7 +151,7 @@ pub(crate) fn drawing(
     from: u32,
     to: u32,
 ) -> DrawLogOptions
-    ensures { AreDrawingOf stamp_form tolerance receives unsent_local explained from to result }
+    ensures { AreDrawingOf stamp_form tolerance receives unsent_local (part_between explained from to) result }
 {
     DrawLogOptions {
         records: records(stamp_form, tolerance, receives, unsent_local),
@@ -163,4 +163,33 @@ pub(crate) fn drawing(
             explained: line(explained),
         },
     }
+}
+
+// How so many rows of a log about an event are drawn by these numbers, or with 0 rows its chain alone.
+pub(crate) fn drawing_around(
+    stamp_form: u32,
+    tolerance: u64,
+    receives: u32,
+    unsent_local: bool,
+    explained: u32,
+    about: u32,
+    rows: u32,
+) -> DrawLogOptions
+    ensures { AreDrawingOf stamp_form tolerance receives unsent_local (part_around explained about rows) result }
+{
+    let records = records(stamp_form, tolerance, receives, unsent_local);
+    let part = if rows == 0 {
+        LogPart::Chain {
+            line: LogLine::Counted(about),
+        }
+    } else {
+        LogPart::Rows {
+            rows: LogRows::Around {
+                line: LogLine::Counted(about),
+                rows,
+            },
+            explained: line(explained),
+        }
+    };
+    DrawLogOptions { records, part }
 }

@@ -18,7 +18,7 @@ use Rattle.hlc_causality.proofs.TickingReceives.{least_by_readings}
 use Rattle.hlc_diagram.specs.Chosen.{IsMissing}
 use Rattle.hlc_diagram.specs.Content.{clock_events_of}
 use Rattle.hlc_stamp.specs.declared.id.EventId.{EventId}
-use Rattle.hlc_picture.specs.Drawn.{HistoriesHaveTheirChains, HistoriesHaveTheirForcing, HistoriesSendFirst, content_of}
+use Rattle.hlc_picture.specs.Drawn.{HistoriesHaveTheirChains, HistoriesHaveTheirForcing, HistoriesHaveTheirNodes, HistoriesSendFirst, content_of}
 
 pub histories_send_first : HistoriesSendFirst
 histories_send_first h well f s exists send =
@@ -28,6 +28,12 @@ histories_send_first h well f s exists send =
     let lt = delivers_earlier h.nodes (take f h.events) (event_at h.events f) s (well.each f there) kind in
     let before = length-take f h.events in
     omega arith
+
+pub histories_have_their_nodes : HistoriesHaveTheirNodes
+histories_have_their_nodes h well e exists =
+    let size = length_skeleton h.events in
+    let there : e < length h.events = omega arith in
+    subst (λ (x : SkeletonEvent). x.node < h.nodes) (sym (skeleton_at_place h.events e)) (well.each e there).node
 
 -- its stamps are the least by floors and ticks
 pub least_as_shown : (h : History) → HasLeastStamps h.events → IsLeastFeasible (clock_events_of (content_of h)) (content_of h).stamps

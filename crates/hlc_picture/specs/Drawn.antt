@@ -8,7 +8,7 @@ use Rattle.hlc_causality.specs.Chain.{IsChainOf, IsForcing}
 use Rattle.hlc_causality.specs.ClockChain.{IsClockChainOf, IsClockForcing}
 use Rattle.hlc_causality.specs.ReceiveEvents.{plain_rules}
 use Rattle.hlc_diagram.specs.ChainPicture.{ChainPicture, chain_picture_of}
-use Rattle.hlc_diagram.specs.Content.{Content, SendsComeFirst, clock_events_of}
+use Rattle.hlc_diagram.specs.Content.{Content, NodesExist, SendsComeFirst, clock_events_of}
 use Rattle.hlc_diagram.specs.Numbers.{digits_of, no_digits, stamp_text, stamp_width}
 use Rattle.hlc_diagram.specs.Picture.{Picture, picture_of, picture_with}
 use Rattle.hlc_svg.specs.declared.look.Form.TheVariants.{Pill}
@@ -31,16 +31,20 @@ abbrev pub width_at : List StampedEvent → (e column : ℕ) → ℕ
 width_at events e column =
     if column == 0 then stamp_width no_digits (stamp_at events e) else if column == 1 then digits_of (event_at events e).reading else WIDTH
 
--- what a diagram shows of a history: receives tick and no event has a rule of its own, events have the numbers of their places, and all look alike
+-- what a diagram shows of a history: receives tick and no event has a rule of its own, each node has a lane, events have the numbers of their places,
+-- and all look alike
 abbrev pub content_of : History → Content
 content_of h = record {
   rules = plain_rules Tick;
   nodes = h.nodes;
+  every_lane = true;
   events = causality_of h.events;
   stamps = stamps_of h.events;
   legend = LEGEND.now;
   name = λ node. codes "node " ++ decimal node;
   number = λ e. e;
+  shown = λ e. e;
+  event = decimal;
   in_order = true;
   look = λ e. record { form = Pill; is_ringed = false };
   columns = 3;
@@ -65,6 +69,10 @@ drawn_chain h e = chain_picture_of (content_of h) e
 -- in a history each send comes before its deliveries
 abbrev pub HistoriesSendFirst : Type 0
 HistoriesSendFirst = (h : History) → IsWellFormed h → SendsComeFirst (content_of h)
+
+-- and its events happen at its nodes
+abbrev pub HistoriesHaveTheirNodes : Type 0
+HistoriesHaveTheirNodes = (h : History) → IsWellFormed h → NodesExist (content_of h)
 
 -- and each event ticks from its reading on, so that by floors and ticks forcing events and chains are those of the history
 abbrev pub HistoriesHaveTheirForcing : Type 0

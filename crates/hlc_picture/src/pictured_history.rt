@@ -44,6 +44,10 @@ impl<'a> Subject for PicturedHistory<'a> {
         self.history.execution()
     }
 
+    fn has_every_lane(&self) -> bool {
+        true
+    }
+
     fn put_legend(&self, text: &mut String) -> Result<(), AllocError> {
         text.push_str(LEGEND)
     }
@@ -54,6 +58,14 @@ impl<'a> Subject for PicturedHistory<'a> {
 
     fn number(&self, event: EventId) -> u32 {
         event.0
+    }
+
+    fn shown(&self, event: EventId) -> u32 {
+        event.0
+    }
+
+    fn put_event(&self, text: &mut String, event: EventId) -> Result<(), AllocError> {
+        write!(text, "{}", event.0)
     }
 
     fn is_in_order(&self) -> bool {

@@ -6,11 +6,12 @@ ghost use Rattle.hlc_cli.specs.Program.{ArePerformed};
 
 use hlc_cli::{Fault, try_perform};
 use std::alloc::Global;
+use std::random::RandomSource;
 use std::sync::Wait;
 use std::thread::Threads;
 
 /// What the program `hlc` writes for these arguments and this input, within another program.
-pub fn perform_arguments<R: AllocGlobal + Threads + Wait + Sync>(
+pub fn perform_arguments<R: AllocGlobal + Threads + Wait + RandomSource + Sync>(
     rt: &R,
     arguments: &[&str],
     input: &[u8],

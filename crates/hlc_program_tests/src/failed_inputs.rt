@@ -5,6 +5,7 @@ use hlc_cli::perform;
 use std::io;
 use std::io::{ErrorKind, Read};
 use std::process::Abort;
+use std::random::RandomSource;
 use std::sync::Wait;
 use std::thread::Threads;
 
@@ -24,7 +25,7 @@ impl Read for Faltering<'_> {
 }
 
 // Carries out a line whose input fails after these bytes.
-fn expect_nothing_written<R: AllocGlobal + Threads + Wait + Abort + Sync>(
+fn expect_nothing_written<R: AllocGlobal + Threads + Wait + Abort + RandomSource + Sync>(
     rt: &R,
     line: &str,
     bytes: &[u8],

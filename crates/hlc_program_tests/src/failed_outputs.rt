@@ -5,6 +5,7 @@ use hlc_cli::{Ended, perform};
 use std::io;
 use std::io::{Read, Write};
 use std::process::Abort;
+use std::random::RandomSource;
 use std::sync::Wait;
 use std::thread::Threads;
 
@@ -44,7 +45,7 @@ static LINES: [(&str, &str); 12] = [
     ("hlc --help", ""),
 ];
 
-fn expect_unflushed<R: AllocGlobal + Threads + Wait + Abort + Sync>(
+fn expect_unflushed<R: AllocGlobal + Threads + Wait + Abort + RandomSource + Sync>(
     rt: &R,
     line: &str,
     input: &[u8],

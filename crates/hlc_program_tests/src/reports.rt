@@ -19,10 +19,14 @@ fn expect_report(rt: &impl Abort, alloc: Global, fault: Fault, line: &str) {
 }
 
 // What stops a command, and the line that tells of it.
-static TOLD: [(CommandFault, &str); 5] = [
+static TOLD: [(CommandFault, &str); 6] = [
     (
         CommandFault::Records(RecordsFault::TooLong),
         "hlc: too many records\n",
+    ),
+    (
+        CommandFault::LogTooLong { most: 16777216 },
+        "hlc: too many records: a log has at most 16777216\n",
     ),
     (CommandFault::Settings, "hlc: bad settings\n"),
     (

@@ -93,7 +93,7 @@ static RECORDS_FAULTS: [(RecordsFault, &str); 4] = [
     (RecordsFault::Memory, "out of memory"),
 ];
 
-static COMMAND_FAULTS: [(CommandFault, &str); 12] = [
+static COMMAND_FAULTS: [(CommandFault, &str); 13] = [
     (CommandFault::NoEvent, "no such event"),
     (CommandFault::BadLog, "bad log"),
     (CommandFault::EmptyLog, "no events"),
@@ -102,6 +102,10 @@ static COMMAND_FAULTS: [(CommandFault, &str); 12] = [
     (CommandFault::Settings, "bad settings"),
     (CommandFault::Mismatch(NodeId(3)), "log mismatch at node 3"),
     (CommandFault::GateShut(NodeId(63)), "gate shut at node 63"),
+    (
+        CommandFault::LogTooLong { most: 16777216 },
+        "too many records: a log has at most 16777216",
+    ),
     (CommandFault::Records(RecordsFault::Read), "reading failed"),
     (CommandFault::Records(RecordsFault::Write), "writing failed"),
     (
@@ -157,6 +161,10 @@ fn expect_texts_of_lines(rt: &impl Abort, alloc: Global) {
                 "--around takes no --from or --to",
             ),
             (
+                LineFault::Part(PartMistake::NoLine("around")),
+                "--around takes LINE or NAME:LINE, with a LINE of at least 1",
+            ),
+            (
                 LineFault::Part(PartMistake::ChainOfNone),
                 "--only-chain needs --explain",
             ),
@@ -175,6 +183,10 @@ fn expect_texts_of_lines(rt: &impl Abort, alloc: Global) {
             (
                 LineFault::Records(RecordsMistake::Resent),
                 "--resent takes `first` or `last`",
+            ),
+            (
+                LineFault::Records(RecordsMistake::Faults),
+                "--lenient takes no --all-faults: bad records are left out, or each is told",
             ),
             (LineFault::Memory, "out of memory"),
         ],

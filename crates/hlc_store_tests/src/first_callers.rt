@@ -5,7 +5,10 @@ ghost use Rattle.hlc_arena.specs.ClockRule.{HasLeastStamps};
 use hlc_arena::{Arena, ReserveFault};
 use hlc_audit::{Summary, explain_all};
 use hlc_core::Cluster;
-use hlc_examples::{explain_stamp, keep_message, pass_message, record_write, share_colour};
+use hlc_examples::{
+    explain_stamp, keep_message, pass_message, pass_packed, record_write, share_colour,
+};
+use hlc_packed::PackedBits;
 use hlc_stamp::{EventId, NodeId, Stamp};
 use std::alloc::Global;
 use std::process::Abort;
@@ -15,6 +18,14 @@ use std::thread::Threads;
 fn a_message_carries_its_stamp(rt: HostRuntime) {
     let stamps = pass_message(Stamp { l: 10, c: 0 }, 10, Stamp { l: 7, c: 0 }, 8);
     assert!(rt; stamps == (Stamp { l: 10, c: 1 }, Stamp { l: 10, c: 2 }));
+}
+
+// With 4 bits for c, 0xa0 packs (10, 0).
+#[test]
+fn a_message_carries_its_number(rt: HostRuntime) {
+    let bits = PackedBits::new(4).expect(&rt, "bits");
+    let numbers = pass_packed(bits, 0xae, 0x7f, 10, 1);
+    assert!(rt; numbers == Ok((0xaf, 0xb0)));
 }
 
 static CHAIN: [EventId; 3] = [EventId(0), EventId(1), EventId(2)];

@@ -121,14 +121,14 @@ abbrev pub ring_if : Bool → (half : ℕ) → List ℕ
 ring_if false half = []
 ring_if true half = ring_text half
 
--- a dot with the number of its event, which can be pointed at and asked for what its title tells
+-- a dot with the number that is shown of its event, which can be pointed at and asked for what its title tells
 unfoldable pub dot_begins : Dot → List ℕ
 dot_begins s =
     codes "<g id=\"e" ++ (decimal s.number ++ (codes "\" class=\"" ++ ((if s.is_marked then codes "k" else codes "d")
     ++ (codes "\" tabindex=\"0\" transform=\"translate(" ++ (decimal s.at.x ++ (codes "," ++ (decimal s.at.y ++ codes ")\">")))))))
 
 unfoldable pub dot_ends : Dot → List ℕ
-dot_ends s = outline_text s.look.form s.half ++ (codes "<text y=\"4\">" ++ (decimal s.number ++ codes "</text></g>\n"))
+dot_ends s = outline_text s.look.form s.half ++ (codes "<text y=\"4\">" ++ (decimal s.shown ++ codes "</text></g>\n"))
 
 unfoldable pub dot_text : Dot → (title : List ℕ) → List ℕ
 dot_text s title = dot_begins s ++ (title ++ (ring_if s.look.is_ringed s.half ++ dot_ends s))

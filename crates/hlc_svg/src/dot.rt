@@ -10,11 +10,12 @@ use hlc_stamp::EventId;
 use std::alloc::AllocError;
 use std::fmt;
 
-/// The dot of an event, with its number.
+/// The dot of an event, with its number, by which it is known in the picture, and the one that is shown on it.
 #[derive(Clone, Copy)]
 pub struct Dot {
     pub event: EventId,
     pub number: u32,
+    pub shown: u32,
     pub at: Point,
     pub half: u8,
     pub look: Look,
@@ -136,17 +137,17 @@ pub fn put_ring(text: &mut String, dot: Dot) -> Result<(), AllocError>
     write!(text, "{ring}")
 }
 
-/// Adds the outline of a dot and its number.
+/// Adds the outline of a dot and the number that is shown on it.
 #[tactic(auto, unfolding(crate::specs::Shapes::dot_ends))]
 pub fn put_dot_end(text: &mut String, dot: Dot) -> Result<(), AllocError>
     ensures { OnOk result (string_bytes text.new ≡ string_bytes text.old ++ dot_ends dot) }
 {
-    let (outline, number) = (
+    let (outline, shown) = (
         Outline {
             form: dot.look.form,
             half: dot.half,
         },
-        dot.number,
+        dot.shown,
     );
-    write!(text, "{outline}<text y=\"4\">{number}</text></g>\n")
+    write!(text, "{outline}<text y=\"4\">{shown}</text></g>\n")
 }

@@ -3,9 +3,8 @@
 ghost use Rattle.std.specs.Prelude.{◌≡◌, ◌++◌, ◌<◌, OnOk, string_bytes};
 ghost use Rattle.hlc_svg.specs.Path.{around_x, arrow_end, arrow_start, crossing_text, crossing_y, end_y, lane_at, lanes_of, path_of, points_text, way_around, way_of};
 
-use crate::frame::{Frame, ROW, beside, row_y, side};
+use crate::frame::{Frame, LaneId, ROW, beside, row_y, towards};
 use crate::shapes::Point;
-use hlc_stamp::NodeId;
 use std::alloc::AllocError;
 
 /// How far an arrow to the same lane keeps from the dots there.
@@ -19,9 +18,9 @@ pub struct Route {
     /// The row where it ends, and how far below the middle of that.
     pub to_row: u32,
     pub below: u8,
-    /// The nodes of the two lanes.
-    pub from: NodeId,
-    pub to: NodeId,
+    /// The two lanes.
+    pub from: LaneId,
+    pub to: LaneId,
     pub frame: Frame,
 }
 
@@ -33,11 +32,11 @@ fn lanes(route: Route) -> u16
 }
 
 // The lane at a place of the way.
-fn lane_at(route: Route, place: u16) -> NodeId
+fn lane_at(route: Route, place: u16) -> LaneId
     requires { place < lanes_of route }
     ensures { result.0 ≡ lane_at route place }
 {
-    NodeId(if route.from.0 < route.to.0 {
+    LaneId(if route.from.0 < route.to.0 {
         route.from.0 + place
     } else {
         route.from.0 - place
@@ -59,10 +58,10 @@ fn put_crossing(text: &mut String, route: Route, place: u16) -> Result<(), Alloc
     requires { place < lanes_of route }
     ensures { OnOk result (string_bytes text.new ≡ string_bytes text.old ++ crossing_text route place) }
 {
-    let (node, y) = (lane_at(route, place), crossing_y(route, place));
+    let (lane, y) = (lane_at(route, place), crossing_y(route, place));
     let (before, after) = (
-        beside(route.frame, node, route.from, y),
-        beside(route.frame, node, route.to, y),
+        beside(route.frame, lane, route.from, y),
+        beside(route.frame, lane, route.to, y),
     );
     write!(text, " {before} {after}")
 }
@@ -103,7 +102,7 @@ fn put_way(text: &mut String, route: Route) -> Result<(), AllocError>
 fn around_x(route: Route) -> u64
     ensures { result ≡ around_x route }
 {
-    side(
+    towards(
         route.frame,
         route.from,
         route.to,

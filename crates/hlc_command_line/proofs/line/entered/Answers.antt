@@ -1,7 +1,10 @@
+use Rattle.std.proofs.Common.{subst}
+use Rattle.std.specs.List.{AllByRecursion}
 use Rattle.clap.specs.Matches.{found_of}
-use Rattle.clap.specs.Walk.{rows_of}
+use Rattle.clap.specs.Walk.{Text, rows_of}
 use Rattle.clap.specs.Simple.{subcommand_rows_of}
 use Rattle.hlc_command_line.specs.Line.{IsMistakeOf, IsOrderFound, IsOrderOf, IsRefusedFound, UnlessMemory}
+use Rattle.hlc_command_line.specs.NumberOption.{IsSigned}
 use Rattle.hlc_command_line.proofs.App.Commands.{if_ok}
 use Rattle.hlc_command_line.proofs.LineFacts.{entered_has, entered_is, if_err, unsigned_entered}
 use Rattle.hlc_command_line.proofs.line.entered.Goals as goal
@@ -10,7 +13,8 @@ pub order_of-requires : goal.order_of-requires
 order_of-requires c =
     let name = c.in-Some.name.now in
     let rows = rows_of (found_of c.in-Some.options.now) in
-    unsigned_entered name rows c.in-None-signed_option.ensures.none
+    unsigned_entered name rows
+    (subst (AllByRecursion (λ (option : Text). ¬ IsSigned rows option)) c.number_names.ensures c.in-None-signed_option.ensures.none)
     (entered_has c.args.matches.now name rows c.in-Some.ensures.name c.in-Some.ensures.rows c.requires)
 
 pub returns-in-None-signed_option-clause-mistaken : goal.returns-in-None-signed_option-clause-mistaken

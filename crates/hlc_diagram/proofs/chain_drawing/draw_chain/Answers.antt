@@ -1,4 +1,4 @@
-use Rattle.std.proofs.Common.{◌≡◌, ◌∙◌, ℕ, ◌≤◌, List, Some, ap, arith, length, subst, sym}
+use Rattle.std.proofs.Common.{◌≡◌, ◌∙◌, ℕ, ◌<◌, ◌≤◌, All, List, Some, ap, arith, length, subst, sym}
 use Rattle.std.proofs.lemmas.Result.{err_from_is_err_and}
 use Rattle.std.specs.Io.KnownBytes.{Appends}
 use Rattle.hlc_stamp.specs.Ids.{places_of}
@@ -10,7 +10,9 @@ use Rattle.hlc_figures.specs.Columns.{AreColumnsOf}
 use Rattle.hlc_figures.specs.Content.{Content, clock_events_of}
 use Rattle.hlc_figures.specs.declared.chain_rows.ChainRow.{ChainRow}
 use Rattle.hlc_svg.specs.declared.frame.Frame.{Frame}
-use Rattle.hlc_figures.proofs.Chains.{listed_rises, listed_rows_exist, listed_rows_fit}
+use Rattle.hlc_figures.specs.Lanes.{lanes_of}
+use Rattle.hlc_figures.proofs.NodeLanes.{lanes_exist}
+use Rattle.hlc_figures.proofs.Chains.{chosen_all_exist, listed_rises, listed_rows_exist, listed_rows_fit}
 use Rattle.hlc_diagram.proofs.Faults.{other_fault}
 use Rattle.hlc_diagram.proofs.chain_drawing.draw_chain.Goals as goal
 
@@ -25,18 +27,24 @@ count_rows-requires g c =
     listed_rows_fit (g.S.Subject.content c.args.subject.now) (Some c.args.event) c.deref.result.now c.deref-3.result.now listed
     (c.deref-3.ensures.value ∙ c.in_ok-rows.ensures)
 
-pub lay_out_chain-requires : goal.lay_out_chain-requires
-lay_out_chain-requires g c =
+pub lay_out_chain-requires-clause-rows : goal.lay_out_chain-requires-clause-rows
+lay_out_chain-requires-clause-rows g c =
     let lent = c.deref.ensures.value ∙ sym c.deref-2.ensures.value in
     let are = c.deref-3.ensures.value ∙ c.in_ok-rows.ensures ∙ ap (λ (list : List EventId). rows_of (places_of list)) lent in
     c.count_rows.ensures ∙ ap (λ (rows : List ChainRow). length rows) are
+
+pub lay_out_chain-requires-clause-exist : goal.lay_out_chain-requires-clause-exist
+lay_out_chain-requires-clause-exist g c =
+    let of = g.S.Subject.content c.args.subject.now in
+    let listed = ap (λ (list : List EventId). places_of list) c.deref-2.ensures.value ∙ c.in_ok-list.ensures.chosen in
+    subst (λ (places : List ℕ). All (λ e. e < length of.events) places) (sym listed) (chosen_all_exist of (Some c.args.event))
 
 -- the events of a frame exist
 frame_exists : (of : Content) (e : EventId) (chain : List ℕ) (frame : Frame) → frame ≡ frame_around of e chain → frame.end ≤ length of.events
 frame_exists of e chain frame is = subst (λ (f : Frame). f.end ≤ length of.events) (sym is) (omega arith)
 
-pub caption_for-caption-requires-clause-exist : goal.caption_for-caption-requires-clause-exist
-caption_for-caption-requires-clause-exist g c =
+pub caption_for-requires-clause-exist : goal.caption_for-requires-clause-exist
+caption_for-requires-clause-exist g c =
     frame_exists (g.S.Subject.content c.args.subject.now) c.args.event (places_of c.deref-2.result.now) c.in_ok-layout.layout.frame
     c.in_ok-layout.ensures.frame
 
@@ -46,8 +54,8 @@ draw_rows-requires-clause-exist g c =
     listed_rows_exist (g.S.Subject.content c.args.subject.now) (Some c.args.event) c.deref.result.now c.deref-6.result.now listed
     (c.deref-6.ensures.value ∙ c.in_ok-rows.ensures)
 
-pub caption_for-caption-requires-clause-list : goal.caption_for-caption-requires-clause-list
-caption_for-caption-requires-clause-list g c = ap (λ (list : List EventId). places_of list) c.deref-5.ensures.value ∙ c.in_ok-list.ensures.chosen
+pub caption_for-requires-clause-list : goal.caption_for-requires-clause-list
+caption_for-requires-clause-list g c = ap (λ (list : List EventId). places_of list) c.deref-5.ensures.value ∙ c.in_ok-list.ensures.chosen
 
 pub draw_rows-requires-clause-columns : goal.draw_rows-requires-clause-columns
 draw_rows-requires-clause-columns g c =
@@ -55,21 +63,22 @@ draw_rows-requires-clause-columns g c =
     let frame = c.in_ok-layout.layout.frame in
     subst (λ (xs : List ℕ). AreColumnsOf of frame xs) (sym c.deref-4.ensures.value) c.in_ok-layout.ensures.columns
 
-pub draw_rows-requires-clause-nodes : goal.draw_rows-requires-clause-nodes
-draw_rows-requires-clause-nodes g c = ap (λ (f : Frame). f.nodes) c.in_ok-layout.ensures.frame
-
-pub draw_rows-requires-clause-caption : goal.draw_rows-requires-clause-caption
-draw_rows-requires-clause-caption g c = c.caption_for-caption.ensures
+pub draw_rows-requires-clause-lanes : goal.draw_rows-requires-clause-lanes
+draw_rows-requires-clause-lanes g c =
+    let of = g.S.Subject.content c.args.subject.now in
+    subst (λ (lanes : List ℕ). All (λ node. node < of.nodes) lanes) (sym c.in_ok-layout.ensures.lanes)
+    (lanes_exist of (places_of c.deref-2.result.now))
 
 -- rows that are those of the chain, around it, make its picture
 chain_drawn :
-    (of : Content) (e : EventId) (chain : List ℕ) (frame : Frame) (rows : List ChainRow) → chain ≡ chosen (clock_events_of of) of.stamps (Some e) →
-    frame ≡ frame_around of e chain → rows ≡ rows_of chain →
-    chain_picture_text (chain_picture_in of frame e rows) ≡ chain_picture_text (chain_picture_of of e)
-chain_drawn of e chain frame rows is around are =
-    ap (λ (f : Frame). chain_picture_text (chain_picture_in of f e rows)) around
-    ∙ ap (λ (r : List ChainRow). chain_picture_text (chain_picture_in of (frame_around of e chain) e r)) are
-    ∙ ap (λ (chain : List ℕ). chain_picture_text (chain_picture_in of (frame_around of e chain) e (rows_of chain))) is
+    (of : Content) (e : EventId) (chain : List ℕ) (frame : Frame) (lanes : List ℕ) (rows : List ChainRow) →
+    chain ≡ chosen (clock_events_of of) of.stamps (Some e) → frame ≡ frame_around of e chain → lanes ≡ lanes_of of chain → rows ≡ rows_of chain →
+    chain_picture_text (chain_picture_in of frame lanes e rows) ≡ chain_picture_text (chain_picture_of of e)
+chain_drawn of e chain frame lanes rows is around on are =
+    ap (λ (f : Frame). chain_picture_text (chain_picture_in of f lanes e rows)) around
+    ∙ ap (λ (l : List ℕ). chain_picture_text (chain_picture_in of (frame_around of e chain) l e rows)) on
+    ∙ ap (λ (r : List ChainRow). chain_picture_text (chain_picture_in of (frame_around of e chain) (lanes_of of chain) e r)) are
+    ∙ ap (λ (chain : List ℕ). chain_picture_text (chain_picture_in of (frame_around of e chain) (lanes_of of chain) e (rows_of chain))) is
 
 pub returns-clause-drawn : goal.returns-clause-drawn
 returns-clause-drawn g c =
@@ -78,9 +87,10 @@ returns-clause-drawn g c =
     let w1 = g.W.Write.contents c.draw_rows.new.writer in
     let listed = c.in_ok-list.ensures.chosen in
     let around = c.in_ok-layout.ensures.frame ∙ ap (λ (list : List EventId). frame_around of c.args.event (places_of list)) c.deref-2.ensures.value in
+    let on = c.in_ok-layout.ensures.lanes ∙ ap (λ (list : List EventId). lanes_of of (places_of list)) c.deref-2.ensures.value in
     let are = c.deref-6.ensures.value ∙ c.in_ok-rows.ensures ∙ ap (λ (list : List EventId). rows_of (places_of list)) c.deref.ensures.value in
     subst (λ (t : List ℕ). Appends w0 w1 t)
-    (chain_drawn of c.args.event (places_of c.in_ok-list.list.items) c.in_ok-layout.layout.frame c.deref-6.result.now listed around are)
+    (chain_drawn of c.args.event (places_of c.in_ok-list.list.items) c.in_ok-layout.layout.frame _ c.deref-6.result.now listed around on are)
     c.in_ok-draw_rows.ensures.text
 
 pub returns-then-lacks-clause-drawn_without : goal.returns-then-lacks-clause-drawn_without
@@ -90,9 +100,10 @@ returns-then-lacks-clause-drawn_without g c =
     let w1 = g.W.Write.contents c.draw_rows.new.writer in
     let listed = c.in_ok-list.ensures.chosen in
     let around = c.in_ok-layout.ensures.frame ∙ ap (λ (list : List EventId). frame_around of c.args.event (places_of list)) c.deref-2.ensures.value in
+    let on = c.in_ok-layout.ensures.lanes ∙ ap (λ (list : List EventId). lanes_of of (places_of list)) c.deref-2.ensures.value in
     let are = c.deref-6.ensures.value ∙ c.in_ok-rows.ensures ∙ ap (λ (list : List EventId). rows_of (places_of list)) c.deref.ensures.value in
     λ no_event. subst (λ (t : List ℕ). Appends w0 w1 t)
-    (chain_drawn of c.args.event (places_of c.in_ok-list.list.items) c.in_ok-layout.layout.frame c.deref-6.result.now listed around are)
+    (chain_drawn of c.args.event (places_of c.in_ok-list.list.items) c.in_ok-layout.layout.frame _ c.deref-6.result.now listed around on are)
     c.in_ok-draw_rows.ensures.text
 
 pub returns-in_err-list : goal.returns-in_err-list

@@ -6,16 +6,19 @@ use Rattle.hlc_diagram.proofs.chain_drawing.draw_items.Goals as goal
 
 pub loop-row-init : goal.loop-row-init
 loop-row-init g c =
-    let text : ChainRow → List ℕ = λ row. item_text c.args.layer (item_of (g.S.Subject.content c.args.subject.now) c.args.scene.now.frame row) in
+    let s = c.args.scene.now in
+    let text : ChainRow → List ℕ = λ row. item_text c.args.layer (item_of (g.S.Subject.content c.args.subject.now) s.frame s.lanes.now row) in
     adds_none text _ _
 
 pub loop-row-preserved : goal.loop-row-preserved
 loop-row-preserved g c =
-    let text : ChainRow → List ℕ = λ row. item_text c.args.layer (item_of (g.S.Subject.content c.args.subject.now) c.args.scene.now.frame row) in
+    let s = c.args.scene.now in
+    let text : ChainRow → List ℕ = λ row. item_text c.args.layer (item_of (g.S.Subject.content c.args.subject.now) s.frame s.lanes.now row) in
     taken_added text c.args.rows.now c.loop-row.row-index _ _ _ _ _ _ _ _ (omega arith) c.loop-row.invariant c.in_ok-put_item.ensures c.in_ok-spill.ensures.kept
 
 pub returns-clause-text : goal.returns-clause-text
 returns-clause-text g c =
-    let text : ChainRow → List ℕ = λ row. item_text c.args.layer (item_of (g.S.Subject.content c.args.subject.now) c.args.scene.now.frame row) in
+    let s = c.args.scene.now in
+    let text : ChainRow → List ℕ = λ row. item_text c.args.layer (item_of (g.S.Subject.content c.args.subject.now) s.frame s.lanes.now row) in
     let all : length c.args.rows.now ≤ c.loop-row.row-index = omega arith in
     all_taken text c.args.rows.now c.loop-row.row-index _ _ _ _ all c.loop-row.invariant

@@ -5,7 +5,6 @@ use Rattle.hlc_causality.specs.Places.{places_below}
 use Rattle.hlc_figures.specs.ChainFigure.{item_of, item_text}
 use Rattle.hlc_figures.specs.Head.{head_text, heading_of}
 use Rattle.hlc_figures.specs.FigureText.{named_lane_of, named_lane_text}
-use Rattle.hlc_figures.specs.declared.caption.Caption.{Caption}
 use Rattle.hlc_figures.specs.declared.layer.Layer.TheVariants.{Back, Front, Lines}
 use Rattle.hlc_diagram.proofs.ChainTexts.{parts_of_chain}
 use Rattle.hlc_diagram.proofs.Texts.{parts_drawn}
@@ -14,17 +13,18 @@ use Rattle.hlc_diagram.proofs.chain_drawing.draw_rows.Goals as goal
 pub returns-clause-text : goal.returns-clause-text
 returns-clause-text g c =
     let frame = c.args.scene.now.frame in
+    let lanes = c.args.scene.now.lanes.now in
     let rows = c.args.rows.now in
     let of = g.S.Subject.content c.args.subject.now in
     let headings = map (heading_of of frame) (places_below of.columns) in
     let bytes = g.W.Write.contents in
-    let head = head_text frame c.args.caption of.legend headings in
-    let backs = flat_map (λ row. item_text Back (item_of of frame row)) rows in
-    let lanes = flat_map (λ node. named_lane_text (named_lane_of of frame node)) (places_below frame.nodes) in
-    let lines = flat_map (λ row. item_text Lines (item_of of frame row)) rows in
-    let fronts = flat_map (λ row. item_text Front (item_of of frame row)) rows in
+    let head = head_text frame c.args.caption.now of.legend headings in
+    let backs = flat_map (λ row. item_text Back (item_of of frame lanes row)) rows in
+    let named = flat_map (λ node. named_lane_text (named_lane_of of frame lanes node)) lanes in
+    let lines = flat_map (λ row. item_text Lines (item_of of frame lanes row)) rows in
+    let fronts = flat_map (λ row. item_text Front (item_of of frame lanes row)) rows in
     let foot = codes "</svg>\n" in
-    let rest = backs ++ (lanes ++ (lines ++ (fronts ++ foot))) in
+    let rest = backs ++ (named ++ (lines ++ (fronts ++ foot))) in
     let w0 = bytes c.args.writer.now in
     let w1 = bytes c.draw_items.new.writer in
     let w2 = bytes c.draw_lanes.new.writer in
@@ -38,10 +38,10 @@ returns-clause-text g c =
     let t4 = string_bytes c.draw_items-3.new.text in
     let begins = c.in_ok-put_head.ensures ∙ ap (λ (t : List ℕ). t ++ head) c.new-text.ensures.bytes in
     let drawn =
-    parts_drawn w0 w1 w2 w3 w4 w5 t0 t1 t2 t3 t4 head backs lanes lines fronts foot begins c.in_ok-draw_items.ensures.text
+    parts_drawn w0 w1 w2 w3 w4 w5 t0 t1 t2 t3 t4 head backs named lines fronts foot begins c.in_ok-draw_items.ensures.text
     c.in_ok-draw_lanes.ensures.text c.in_ok-draw_items-2.ensures.text c.in_ok-draw_items-3.ensures.text in
     let text =
-    ap (λ (caption : Caption). head_text frame caption of.legend headings ++ rest) c.requires.caption ∙ parts_of_chain of frame c.args.event rows in
+    ap (λ (caption : List ℕ). head_text frame caption of.legend headings ++ rest) c.requires.caption ∙ parts_of_chain of frame lanes c.args.event rows in
     on_ok_weaker c.finish.result
     (λ ends. subst (λ (t : List ℕ). Appends w0 w5 t) text (drawn ends)) c.finish.ensures.text
 

@@ -1,24 +1,30 @@
-use Rattle.std.proofs.Common.{◌≡◌, ℕ, arith, subst, flat_map, string_bytes}
-use Rattle.hlc_causality.specs.Places.{places_below}
-use Rattle.hlc_diagram.specs.Picture.{GrowsBy}
+use Rattle.std.proofs.Common.{◌∙◌, ℕ, ◌<◌, ◌≤◌, ◌++◌, List, ap, arith, length, string_bytes, subst, sym}
 use Rattle.hlc_figures.specs.FigureText.{named_lane_of, named_lane_text}
-use Rattle.hlc_diagram.proofs.Texts.{adds_none, lanes_added}
+use Rattle.hlc_diagram.proofs.Texts.{adds_none, all_taken, taken_added}
 use Rattle.hlc_diagram.proofs.drawing.draw_lanes.Goals as goal
 
-pub loop-node-init : goal.loop-node-init
-loop-node-init g c = adds_none (λ node. named_lane_text (named_lane_of (g.S.Subject.content c.args.subject.now) c.args.frame node)) _ _
+pub loop-place-init : goal.loop-place-init
+loop-place-init g c =
+    let s = c.args.scene.now in
+    adds_none (λ node. named_lane_text (named_lane_of (g.S.Subject.content c.args.subject.now) s.frame s.lanes.now node)) _ _
 
-pub loop-node-preserved : goal.loop-node-preserved
-loop-node-preserved g c =
-    lanes_added (λ node. named_lane_text (named_lane_of (g.S.Subject.content c.args.subject.now) c.args.frame node))
-    c.loop-node.node _ _ _ _ _ _ _ c.loop-node.invariant c.in_ok-put_lane.ensures c.in_ok-spill.ensures.kept
+pub put_lane-requires : goal.put_lane-requires
+put_lane-requires g c =
+    let lanes = c.args.scene.now.lanes.now in
+    let exists = c.requires c.loop-place.place 0 (omega arith) in
+    subst (λ (n : ℕ). n < (g.S.Subject.content c.args.subject.now).nodes) (sym c.node-node.ensures) exists
+
+pub loop-place-preserved : goal.loop-place-preserved
+loop-place-preserved g c =
+    let s = c.args.scene.now in
+    let text : ℕ → List ℕ = λ node. named_lane_text (named_lane_of (g.S.Subject.content c.args.subject.now) s.frame s.lanes.now node) in
+    let old = string_bytes c.loop-place.text in
+    let grown = c.in_ok-put_lane.ensures ∙ ap (λ (node : ℕ). old ++ text node) c.node-node.ensures in
+    taken_added text s.lanes.now c.loop-place.place 0 _ _ _ _ _ _ _ (omega arith) c.loop-place.invariant grown c.in_ok-spill.ensures.kept
 
 pub returns-clause-text : goal.returns-clause-text
 returns-clause-text g c =
-    let all : c.loop-node.node ≡ c.args.frame.nodes = omega arith in
-    let bytes = g.W.Write.contents in
-    let old = string_bytes c.args.text.now in
-    let new = string_bytes c.loop-node.text in
-    let of = g.S.Subject.content c.args.subject.now in
-    subst (λ (n : ℕ). GrowsBy (bytes c.args.writer.now) (bytes c.loop-node.writer) old new
-    (flat_map (λ node. named_lane_text (named_lane_of of c.args.frame node)) (places_below n))) all c.loop-node.invariant
+    let s = c.args.scene.now in
+    let text : ℕ → List ℕ = λ node. named_lane_text (named_lane_of (g.S.Subject.content c.args.subject.now) s.frame s.lanes.now node) in
+    let all : length s.lanes.now ≤ c.loop-place.place = omega arith in
+    all_taken text s.lanes.now c.loop-place.place _ _ _ _ all c.loop-place.invariant

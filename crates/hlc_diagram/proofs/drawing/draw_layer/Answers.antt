@@ -12,7 +12,7 @@ put_layer-requires g c = record { scene = c.requires; drawn = record { from = c.
 pub loop-place-preserved : goal.loop-place-preserved
 loop-place-preserved g c =
     let s = c.args.scene.now in
-    let text : ℕ → List ℕ = λ e. layer_text c.args.layer (figure_of (g.S.Subject.content c.args.subject.now) s.explained s.frame e) in
+    let text : ℕ → List ℕ = λ e. layer_text c.args.layer (figure_of (g.S.Subject.content c.args.subject.now) s.explained s.frame s.lanes.now e) in
     places_added text s.frame.first c.loop-place.place _ _ _ _ _ _ _ c.loop-place.auto.place c.loop-place.invariant
     c.in_ok-put_layer.ensures c.in_ok-spill.ensures.kept
 
@@ -21,5 +21,5 @@ returns-clause-text g c =
     let s = c.args.scene.now in
     let ordered = c.requires.ordered in
     let last : c.loop-place.place - s.frame.first ≡ s.frame.end - s.frame.first = omega arith in
-    let text : ℕ → List ℕ = λ e. layer_text c.args.layer (figure_of (g.S.Subject.content c.args.subject.now) s.explained s.frame e) in
+    let text : ℕ → List ℕ = λ e. layer_text c.args.layer (figure_of (g.S.Subject.content c.args.subject.now) s.explained s.frame s.lanes.now e) in
     places_all text s.frame.first _ _ _ _ _ _ last c.loop-place.invariant

@@ -7,7 +7,6 @@ use Rattle.hlc_diagram.specs.Cross.{cross_of, cross_text}
 use Rattle.hlc_figures.specs.Head.{head_text, heading_of}
 use Rattle.hlc_figures.specs.FigureText.{back_text, figure_of, front_text, lines_text, named_lane_of, named_lane_text}
 use Rattle.hlc_svg.specs.Shapes.{if_drawn}
-use Rattle.hlc_figures.specs.declared.caption.Caption.{Caption}
 use Rattle.hlc_diagram.proofs.Texts.{adds_then, parts_drawn, parts_of_picture}
 use Rattle.hlc_diagram.proofs.drawing.draw_scene.Goals as goal
 
@@ -17,13 +16,13 @@ returns-clause-text g c =
     let of = g.S.Subject.content c.args.subject.now in
     let headings = map (heading_of of s.frame) (places_below of.columns) in
     let bytes = g.W.Write.contents in
-    let head = head_text s.frame c.args.caption of.legend headings in
-    let backs = flat_map (λ e. back_text (figure_of of s.explained s.frame e)) (places_in s.frame) in
-    let lanes = flat_map (λ node. named_lane_text (named_lane_of of s.frame node)) (places_below s.frame.nodes) in
-    let lines = flat_map (λ e. lines_text (figure_of of s.explained s.frame e)) (places_in s.frame) in
-    let fronts = flat_map (λ e. front_text (figure_of of s.explained s.frame e)) (places_in s.frame) in
+    let head = head_text s.frame c.args.caption.now of.legend headings in
+    let backs = flat_map (λ e. back_text (figure_of of s.explained s.frame s.lanes.now e)) (places_in s.frame) in
+    let lanes = flat_map (λ node. named_lane_text (named_lane_of of s.frame s.lanes.now node)) s.lanes.now in
+    let lines = flat_map (λ e. lines_text (figure_of of s.explained s.frame s.lanes.now e)) (places_in s.frame) in
+    let fronts = flat_map (λ e. front_text (figure_of of s.explained s.frame s.lanes.now e)) (places_in s.frame) in
     let foot = codes "</svg>\n" in
-    let crosses = flat_map (λ m. if_drawn cross_text (cross_of of s.frame m)) c.args.undelivered.now in
+    let crosses = flat_map (λ m. if_drawn cross_text (cross_of of s.frame s.lanes.now m)) c.args.undelivered.now in
     let rest = backs ++ (lanes ++ ((lines ++ crosses) ++ (fronts ++ foot))) in
     let w0 = bytes c.args.writer.now in
     let w1 = bytes c.draw_layer.new.writer in
@@ -45,7 +44,8 @@ returns-clause-text g c =
     (adds_then w2 w3 w4 t2 t3 t4 lines crosses c.in_ok-draw_layer-2.ensures.text c.in_ok-draw_crosses.ensures.text)
     c.in_ok-draw_layer-3.ensures.text in
     let text =
-    ap (λ (caption : Caption). head_text s.frame caption of.legend headings ++ rest) c.requires.caption ∙ parts_of_picture of s.frame s.explained c.args.undelivered.now in
+    ap (λ (caption : List ℕ). head_text s.frame caption of.legend headings ++ rest) c.requires.caption
+    ∙ parts_of_picture of s.frame s.lanes.now s.explained c.args.undelivered.now in
     on_ok_weaker c.finish.result
     (λ ends. subst (λ (t : List ℕ). Appends w0 w6 t) text (drawn ends)) c.finish.ensures.text
 

@@ -1,15 +1,17 @@
-use Rattle.std.proofs.Common.{◌≡◌, ◌∙◌, ℕ, ◌≤◌, Bool, List, Option, ap, arith, length, subst, sym}
+use Rattle.std.proofs.Common.{◌≡◌, ◌∙◌, ℕ, ◌-◌, ◌<◌, ◌≤◌, All, Bool, List, Option, ap, arith, length, subst, sym}
 use Rattle.std.proofs.lemmas.Result.{err_from_is_err_and}
 use Rattle.std.specs.Io.KnownBytes.{Appends}
 use Rattle.hlc_causality.specs.Neighbours.{place_of}
 use Rattle.hlc_stamp.specs.Ids.{places_of}
 use Rattle.hlc_stamp.specs.declared.id.EventId.{EventId}
 use Rattle.hlc_figures.specs.Chosen.{AreMarks, chosen, first_past}
-use Rattle.hlc_figures.specs.Columns.{AreColumnsOf}
-use Rattle.hlc_diagram.specs.Layout.{frame_of}
+use Rattle.hlc_figures.specs.Columns.{AreColumnsOf, places_from}
+use Rattle.hlc_diagram.specs.Layout.{end_of, first_of, frame_of, frame_on, lanes_in}
 use Rattle.hlc_figures.specs.Content.{Content, clock_events_of}
 use Rattle.hlc_figures.specs.Figure.{next_of}
-use Rattle.hlc_diagram.specs.Picture.{picture_in, picture_text}
+use Rattle.hlc_diagram.specs.Picture.{picture_in, picture_text, picture_with}
+use Rattle.hlc_diagram.specs.declared.undelivered.Undelivered.{Undelivered}
+use Rattle.hlc_figures.proofs.NodeLanes.{lanes_exist}
 use Rattle.hlc_svg.specs.declared.frame.Frame.{Frame}
 use Rattle.hlc_diagram.specs.declared.view.View.{View}
 use Rattle.hlc_diagram.proofs.Faults.{other_fault}
@@ -44,18 +46,21 @@ columns_shown :
     (of : Content) (frame : Frame) (columns shown : List ℕ) → shown ≡ columns → AreColumnsOf of frame columns → AreColumnsOf of frame shown
 columns_shown of frame columns shown is begin = subst (λ (xs : List ℕ). AreColumnsOf of frame xs) (sym is) begin
 
-pub caption_for-caption-requires-clause-list : goal.caption_for-caption-requires-clause-list
-caption_for-caption-requires-clause-list g c = ap (λ (list : List EventId). places_of list) c.deref-5.ensures.value ∙ c.in_ok-list.ensures.chosen
+pub caption_for-requires-clause-list : goal.caption_for-requires-clause-list
+caption_for-requires-clause-list g c = ap (λ (list : List EventId). places_of list) c.deref-5.ensures.value ∙ c.in_ok-list.ensures.chosen
 
-pub caption_for-caption-requires-clause-exist : goal.caption_for-caption-requires-clause-exist
-caption_for-caption-requires-clause-exist g c =
-    frame_exists (g.S.Subject.content c.args.subject.now) c.args.view c.in_ok-layout.layout.frame c.in_ok-layout.ensures.frame
+pub caption_for-requires-clause-exist : goal.caption_for-requires-clause-exist
+caption_for-requires-clause-exist g c =
+    let of = g.S.Subject.content c.args.subject.now in
+    let is = c.in_ok-layout.ensures.frame ∙ ap (λ (lanes : List ℕ). frame_on of c.args.view lanes) c.in_ok-lanes.ensures in
+    frame_exists of c.args.view c.in_ok-layout.layout.frame is
 
 pub draw_scene-requires-clause-scene : goal.draw_scene-requires-clause-scene
 draw_scene-requires-clause-scene g c =
     let of = g.S.Subject.content c.args.subject.now in
     let frame = c.in_ok-layout.layout.frame in
-    let is = c.in_ok-layout.ensures.frame in
+    let lanes_are = c.in_ok-layout.ensures.lanes ∙ c.in_ok-lanes.ensures in
+    let is = c.in_ok-layout.ensures.frame ∙ ap (λ (lanes : List ℕ). frame_on of c.args.view lanes) c.in_ok-lanes.ensures in
     record {
       ordered = frame_ordered of c.args.view frame is;
       exist = frame_exists of c.args.view frame is;
@@ -65,17 +70,26 @@ draw_scene-requires-clause-scene g c =
           c.in_ok-list.ensures.chosen c.deref-3.ensures.value c.first_past.ensures;
       columns = columns_shown of frame c.in_ok-layout.layout.columns.items c.deref-4.result.now c.deref-4.ensures.value c.in_ok-layout.ensures.columns;
       nodes = ap (λ (f : Frame). f.nodes) is;
+      lanes = subst (λ (lanes : List ℕ). All (λ node. node < of.nodes) lanes) (sym lanes_are)
+          (lanes_exist of (places_from (first_of of c.args.view) (end_of of c.args.view - first_of of c.args.view)));
     }
 
-pub draw_scene-requires-clause-caption : goal.draw_scene-requires-clause-caption
-draw_scene-requires-clause-caption g c = c.caption_for-caption.ensures
+-- a frame and lanes that are those of a view make its picture
+drawn_on :
+    (of : Content) (view : View) (frame : Frame) (lanes : List ℕ) (undelivered : List Undelivered) → frame ≡ frame_of of view → lanes ≡ lanes_in of view →
+    picture_text (picture_in of frame lanes view.explained undelivered) ≡ picture_text (picture_with of view undelivered)
+drawn_on of view frame lanes undelivered is are =
+    ap (λ (f : Frame). picture_text (picture_in of f lanes view.explained undelivered)) is
+    ∙ ap (λ (l : List ℕ). picture_text (picture_in of (frame_of of view) l view.explained undelivered)) are
 
 pub returns-clause-drawn : goal.returns-clause-drawn
 returns-clause-drawn g c =
     let of = g.S.Subject.content c.args.subject.now in
     let w0 = g.W.Write.contents c.args.writer.now in
     let w1 = g.W.Write.contents c.draw_scene.new.writer in
-    subst (λ (f : Frame). Appends w0 w1 (picture_text (picture_in of f c.args.view.explained c.args.undelivered.now))) c.in_ok-layout.ensures.frame
+    let lanes_are = c.in_ok-layout.ensures.lanes ∙ c.in_ok-lanes.ensures in
+    let is = c.in_ok-layout.ensures.frame ∙ ap (λ (lanes : List ℕ). frame_on of c.args.view lanes) c.in_ok-lanes.ensures in
+    subst (λ (t : List ℕ). Appends w0 w1 t) (drawn_on of c.args.view c.in_ok-layout.layout.frame _ c.args.undelivered.now is lanes_are)
     c.in_ok-draw_scene.ensures.text
 
 pub returns-then-lacks-clause-drawn_without : goal.returns-then-lacks-clause-drawn_without
@@ -83,12 +97,24 @@ returns-then-lacks-clause-drawn_without g c =
     let of = g.S.Subject.content c.args.subject.now in
     let w0 = g.W.Write.contents c.args.writer.now in
     let w1 = g.W.Write.contents c.draw_scene.new.writer in
-    λ no_event. subst (λ (f : Frame). Appends w0 w1 (picture_text (picture_in of f c.args.view.explained c.args.undelivered.now)))
-    c.in_ok-layout.ensures.frame c.in_ok-draw_scene.ensures.text
+    let lanes_are = c.in_ok-layout.ensures.lanes ∙ c.in_ok-lanes.ensures in
+    let is = c.in_ok-layout.ensures.frame ∙ ap (λ (lanes : List ℕ). frame_on of c.args.view lanes) c.in_ok-lanes.ensures in
+    λ no_event. subst (λ (t : List ℕ). Appends w0 w1 t) (drawn_on of c.args.view c.in_ok-layout.layout.frame _ c.args.undelivered.now is lanes_are)
+    c.in_ok-draw_scene.ensures.text
+
+pub returns-in_err-lanes : goal.returns-in_err-lanes
+returns-in_err-lanes g c =
+    let from = err_from_is_err_and c.from_residual.result c.from_residual.ensures.1 in
+    rw (from.1, from.2) record {
+      drawn = tt;
+      drawn_without = other_fault _ tt;
+      no_event = other_fault _ tt;
+      event = tt;
+    }
 
 pub returns-in_err-layout : goal.returns-in_err-layout
 returns-in_err-layout g c =
-    let from = err_from_is_err_and c.from_residual.result c.from_residual.ensures.1 in
+    let from = err_from_is_err_and c.from_residual-in_err-layout.result c.from_residual-in_err-layout.ensures.1 in
     rw (from.1, from.2) record {
       drawn = tt;
       drawn_without = other_fault _ tt;

@@ -10,8 +10,8 @@ pub returns : goal.returns
 unfolding lines_text
 returns g c =
     let of = g.S.Subject.content c.args.subject.now in
-    let link = if_drawn link_text (stop_link of c.args.frame c.args.stop) in
-    let arrow = if_drawn arrow_text (stop_arrow of c.args.frame c.args.stop) in
+    let link = if_drawn link_text (stop_link of c.args.scene.now.frame c.args.scene.now.lanes.now c.args.stop) in
+    let arrow = if_drawn arrow_text (stop_arrow of c.args.scene.now.frame c.args.scene.now.lanes.now c.args.stop) in
     let old = string_bytes c.args.text.now in
     let one = string_bytes c.put_link.new.text in
     let new = string_bytes c.put_arrow.new.text in

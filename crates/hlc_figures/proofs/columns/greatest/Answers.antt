@@ -5,10 +5,10 @@ use Rattle.hlc_figures.proofs.columns.greatest.Goals as goal
 
 pub loop-place-preserved : goal.loop-place-preserved
 loop-place-preserved g c =
-    greatest-more (g.S.Subject.content c.args.subject.now).number c.args.first c.loop-place.place _ _ _ c.loop-place.auto.place
-    c.loop-place.invariant c.number.ensures c.max-greatest.ensures
+    greatest-more (g.S.Subject.content c.args.subject.now).shown c.args.first c.loop-place.place _ _ _ c.loop-place.auto.place
+    c.loop-place.invariant c.shown.ensures c.max-greatest.ensures
 
 pub returns : goal.returns
 returns g c =
     let count : c.loop-place.place - c.args.first ≡ c.args.end - c.args.first = omega arith in
-    c.loop-place.invariant ∙ ap (λ (n : ℕ). greatest_number (g.S.Subject.content c.args.subject.now).number (places_from c.args.first n)) count
+    c.loop-place.invariant ∙ ap (λ (n : ℕ). greatest_number (g.S.Subject.content c.args.subject.now).shown (places_from c.args.first n)) count

@@ -1,6 +1,6 @@
 use Rattle.std.proofs.Common.{◌∙◌, ◌++◌, ap, string_bytes}
 use Rattle.std.proofs.lemmas.Result.{err_from_is_err_and, on_ok_weaker}
-use Rattle.hlc_figures.specs.FigureText.{lane_of}
+use Rattle.hlc_figures.specs.FigureText.{lane_below}
 use Rattle.hlc_svg.specs.Shapes.{lane_line, lane_text, name_begins}
 use Rattle.hlc_svg.specs.declared.shapes.Lane.{Lane}
 use Rattle.hlc_svg.proofs.Added.{then_added}
@@ -9,7 +9,7 @@ use Rattle.hlc_figures.proofs.figure_text.put_lane.Goals as goal
 pub returns : goal.returns
 unfolding lane_text
 returns g c =
-    let lane = lane_of c.args.frame c.args.node.0 in
+    let lane = lane_below c.args.frame c.args.lanes.now c.args.node.0 in
     let name = (g.S.Subject.content c.args.subject.now).name c.args.node.0 in
     let is = c.lane_below-lane.ensures in
     let old = string_bytes c.args.text.now in

@@ -11,11 +11,11 @@ unfolding lines_text
 returns g c =
     let s = c.args.scene.now in
     let of = g.S.Subject.content c.args.subject.now in
-    let link = if_drawn link_text (link_of of s.explained s.frame c.args.event.0) in
-    let stub = if_drawn link_text (stub_of of s.explained s.frame c.args.event.0) in
-    let arrow = if_drawn arrow_text (arrow_of of s.explained s.frame c.args.event.0) in
-    let entering = if_drawn end_text (entering_of of s.explained s.frame c.args.event.0) in
-    let leaving = if_drawn end_text (leaving_of of s.explained s.frame c.args.event.0) in
+    let link = if_drawn link_text (link_of of s.explained s.frame s.lanes.now c.args.event.0) in
+    let stub = if_drawn link_text (stub_of of s.explained s.frame s.lanes.now c.args.event.0) in
+    let arrow = if_drawn arrow_text (arrow_of of s.explained s.frame s.lanes.now c.args.event.0) in
+    let entering = if_drawn end_text (entering_of of s.explained s.frame s.lanes.now c.args.event.0) in
+    let leaving = if_drawn end_text (leaving_of of s.explained s.frame s.lanes.now c.args.event.0) in
     let old = string_bytes c.args.text.now in
     let one = string_bytes c.put_link.new.text in
     let two = string_bytes c.put_link-2.new.text in

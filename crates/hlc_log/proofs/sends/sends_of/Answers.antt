@@ -68,3 +68,6 @@ returns-then-is_some-clause-fault c =
     let first : link_at links m ≡ Some linked.0 =
     sym (get_or_read links m c.index.result.now (omega arith) c.index.ensures None) ∙ linked.1 in
     sends_again events place c.args.messages links c.loop-place.invariant.len c.requires c.loop-place.invariant.links m linked.0 sends first
+
+pub returns-then-is_some-clause-memory : goal.returns-then-is_some-clause-memory
+returns-then-is_some-clause-memory c = λ sound. absurd (sound.once c.loop-place.place (returns-then-is_some-clause-fault c).has)

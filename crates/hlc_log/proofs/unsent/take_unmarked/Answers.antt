@@ -3,12 +3,13 @@ use Rattle.std.specs.Prelude.{count_by, if◌then◌else◌, is_some}
 use Rattle.std.proofs.lemmas.List.{length-set, take_all}
 use Rattle.std.proofs.lemmas.List.Sums.{count_by_more_no, count_by_more_yes}
 use Rattle.hlc_stamp.specs.Order.{Pair}
+use Rattle.hlc_log.specs.declared.asides.Asides.{Asides}
 use Rattle.hlc_log.specs.declared.log_event.LogEvent.{LogEvent}
 use Rattle.hlc_log.specs.declared.log_event.LogKind.TheVariants.{Receive}
 use Rattle.hlc_log.specs.declared.message_id.MessageId.{MessageId}
 use Rattle.hlc_log.specs.declared.slot.Slot.{Slot}
 use Rattle.hlc_log.specs.Events.{IsMessageBelow, event_at, no_event}
-use Rattle.hlc_log.specs.Slots.{carried_at, kind_by, stored_event, stored_events}
+use Rattle.hlc_log.specs.Slots.{aside_at, kind_by, stored_event, stored_events}
 use Rattle.hlc_log.specs.Unsent.{is_outside, is_unsent, is_untold, taken_event, taken_kind}
 use Rattle.hlc_log.proofs.Numbered.{numbered_at}
 use Rattle.hlc_log.proofs.StoredEvents.{stored_at, stored_set, stored_size}
@@ -29,21 +30,21 @@ pub at_mut-slot-requires : goal.at_mut-slot-requires
 at_mut-slot-requires c = omega (arith, c.loop-place-test.true, c.len-place-end.ensures, c.loop-place.invariant.len)
 
 -- the event that is taken is as it was
-slot_is : (carried : List (Option Pair)) (slots old_slots : List Slot) (place : ℕ) (old : Slot) → length slots ≡ length old_slots → place < length slots
-    → old ≡ get_or slots place old → event_at (stored_events carried slots) place ≡ event_at (stored_events carried old_slots) place
-    → stored_event (carried_at carried place) old ≡ event_at (stored_events carried old_slots) place
-slot_is carried slots old_slots place old len within is left =
-    ap (stored_event (carried_at carried place)) is ∙ sym (stored_at carried slots place old within) ∙ left
+slot_is : (asides : Asides) (slots old_slots : List Slot) (place : ℕ) (old : Slot) → length slots ≡ length old_slots → place < length slots
+    → old ≡ get_or slots place old → event_at (stored_events asides slots) place ≡ event_at (stored_events asides old_slots) place
+    → stored_event (aside_at asides place) old ≡ event_at (stored_events asides old_slots) place
+slot_is asides slots old_slots place old len within is left =
+    ap (stored_event (aside_at asides place)) is ∙ sym (stored_at asides slots place old within) ∙ left
 
 pub take_unmarked-requires : goal.take_unmarked-requires
 take_unmarked-requires c =
-    let events = stored_events c.args.carried.now c.args.slots.now.items in
+    let events = stored_events c.args.asides.now c.args.slots.now.items in
     let place = c.loop-place.place in
     let h = c.loop-place.invariant in
-    let size = stored_size c.args.carried.now c.args.slots.now.items in
+    let size = stored_size c.args.asides.now c.args.slots.now.items in
     let old = c.at_mut-slot.result.now in
     let before : place < length c.args.slots.now.items = omega (arith, c.loop-place-test.true, c.len-place-end.ensures) in
-    let is = slot_is c.args.carried.now c.loop-place.slots.items c.args.slots.now.items place old h.len (omega (arith, before, h.len))
+    let is = slot_is c.args.asides.now c.loop-place.slots.items c.args.slots.now.items place old h.len (omega (arith, before, h.len))
     c.at_mut-slot.ensures.value (h.left place (omega arith)) in
     subst (λ (e : LogEvent). IsMessageBelow (length c.args.sent.now) e.kind) (sym is)
     (numbered_at (length c.args.sent.now) events c.requires.numbered place (omega (arith, before, size))).message
@@ -55,38 +56,38 @@ never false = refl
 
 pub loop-place-preserved : goal.loop-place-preserved
 loop-place-preserved c =
-    let carried = c.args.carried.now in
-    let events = stored_events carried c.args.slots.now.items in
+    let asides = c.args.asides.now in
+    let events = stored_events asides c.args.slots.now.items in
     let slots = c.loop-place.slots.items in
-    let now = stored_events carried slots in
+    let now = stored_events asides slots in
     let place = c.loop-place.place in
     let h = c.loop-place.invariant in
-    let some = stored_size carried slots in
-    let many = stored_size carried c.args.slots.now.items in
+    let some = stored_size asides slots in
+    let many = stored_size asides c.args.slots.now.items in
     let before : place < length c.args.slots.now.items = omega (arith, c.loop-place-test.true, c.len-place-end.ensures) in
     let old = c.at_mut-slot.result.now in
     let new = c.take_unmarked.new.self in
     let took = c.take_unmarked.ensures in
-    let kept = carried_at carried place in
-    let is = slot_is carried slots c.args.slots.now.items place old h.len (omega (arith, before, h.len))
+    let kept = aside_at asides place in
+    let is = slot_is asides slots c.args.slots.now.items place old h.len (omega (arith, before, h.len))
     c.at_mut-slot.ensures.value (h.left place (omega arith)) in
     let below : IsMessageBelow (length c.args.sent.now) (kind_by old.role old.message) =
     subst (λ (e : LogEvent). IsMessageBelow (length c.args.sent.now) e.kind) (sym is)
     (numbered_at (length c.args.sent.now) events c.requires.numbered place (omega (arith, before, many))).message in
     let unsent : c.take_unmarked.result ≡ is_unsent events (kind_by old.role old.message) =
     took.value ∙ unmarked_is_unsent events c.args.sent.now c.requires.marks (kind_by old.role old.message) below in
-    let becomes = λ (m : MessageId). c.unsent_role.ensures m ∙ ap (λ (o : Option Pair). taken_kind c.args.as_local o (Receive m)) c.at-stamp.ensures in
+    let becomes = λ (m : MessageId). c.unsent_role.ensures m ∙ ap (λ (o : Option Pair). taken_kind c.args.as_local o (Receive m)) c.carried_at-stamp.ensures in
     let changed : stored_event kept new ≡ taken_event c.args.as_local events (event_at events place) =
     taken_slot c.args.as_local events kept old new c.unsent_role.result becomes c.take_unmarked.result unsent took.taken took.left
     ∙ ap (taken_event c.args.as_local events) is in
     let here : c.take_unmarked.result ≡ is_unsent events (event_at events place).kind =
     unsent ∙ ap (λ (e : LogEvent). is_unsent events e.kind) is in
-    let told : is_some c.at-stamp.result ≡ is_some (event_at events place).carried =
-    ap is_some c.at-stamp.ensures ∙ ap (λ (e : LogEvent). is_some e.carried) is in
+    let told : is_some c.carried_at-stamp.result ≡ is_some (event_at events place).carried =
+    ap is_some c.carried_at-stamp.ensures ∙ ap (λ (e : LogEvent). is_some e.carried) is in
     let p = is_outside events in
     let q = is_untold events in
     let event = event_at events place in
-    let after = stored_set carried slots place new in
+    let after = stored_set asides slots place new in
     let exists : place < length events = omega (arith, before, many) in
     record {
       len = length-set slots place new ∙ h.len;
@@ -103,7 +104,7 @@ loop-place-preserved c =
                 let no = outside_if events event false true (sym w.if-is_some.false ∙ w.is_some.ensures ∙ told) (sym w.if-take_unmarked.true ∙ here) in
                 w.outside-is ∙ h.outside ∙ sym (count_by_more_no p events place no_event exists no)
             | else-take_unmarked w ↦
-                let no = outside_if events event (is_some c.at-stamp.result) false told (sym w.if-take_unmarked.false ∙ here) ∙ never (is_some c.at-stamp.result) in
+                let no = outside_if events event (is_some c.carried_at-stamp.result) false told (sym w.if-take_unmarked.false ∙ here) ∙ never (is_some c.carried_at-stamp.result) in
                 w.outside-is ∙ h.outside ∙ sym (count_by_more_no p events place no_event exists no)
           ];
       unsent =
@@ -115,7 +116,7 @@ loop-place-preserved c =
                 let yes = untold_if events event false true (sym w.if-is_some.false ∙ w.is_some.ensures ∙ told) (sym w.if-take_unmarked.true ∙ here) in
                 w.unsent-is ∙ ap (λ (n : ℕ). n + 1) h.unsent ∙ sym (count_by_more_yes q events place no_event exists yes)
             | else-take_unmarked w ↦
-                let no = untold_if events event (is_some c.at-stamp.result) false told (sym w.if-take_unmarked.false ∙ here) ∙ never (is_some c.at-stamp.result) in
+                let no = untold_if events event (is_some c.carried_at-stamp.result) false told (sym w.if-take_unmarked.false ∙ here) ∙ never (is_some c.carried_at-stamp.result) in
                 w.unsent-is ∙ h.unsent ∙ sym (count_by_more_no q events place no_event exists no)
           ];
     }
@@ -125,26 +126,26 @@ returns-clause-len c = c.loop-place.invariant.len
 
 pub returns-clause-events : goal.returns-clause-events
 returns-clause-events c =
-    let carried = c.args.carried.now in
-    let events = stored_events carried c.args.slots.now.items in
+    let asides = c.args.asides.now in
+    let events = stored_events asides c.args.slots.now.items in
     let slots = c.loop-place.slots.items in
     let h = c.loop-place.invariant in
-    let some = stored_size carried slots in
-    let many = stored_size carried c.args.slots.now.items in
-    all_taken (taken_event c.args.as_local events) events (stored_events carried slots) (some ∙ h.len ∙ sym many) (λ k lt.
+    let some = stored_size asides slots in
+    let many = stored_size asides c.args.slots.now.items in
+    all_taken (taken_event c.args.as_local events) events (stored_events asides slots) (some ∙ h.len ∙ sym many) (λ k lt.
     h.taken k (omega (arith, lt, many, c.loop-place-test.false, c.len-place-end.ensures)))
 
 pub returns-clause-outside : goal.returns-clause-outside
 returns-clause-outside c =
-    let events = stored_events c.args.carried.now c.args.slots.now.items in
-    let many = stored_size c.args.carried.now c.args.slots.now.items in
+    let events = stored_events c.args.asides.now c.args.slots.now.items in
+    let many = stored_size c.args.asides.now c.args.slots.now.items in
     c.loop-place.invariant.outside
     ∙ ap (count_by (is_outside events)) (take_all c.loop-place.place events (omega (arith, many, c.loop-place-test.false, c.len-place-end.ensures)))
 
 pub returns-clause-unsent : goal.returns-clause-unsent
 returns-clause-unsent c =
-    let events = stored_events c.args.carried.now c.args.slots.now.items in
-    let many = stored_size c.args.carried.now c.args.slots.now.items in
+    let events = stored_events c.args.asides.now c.args.slots.now.items in
+    let many = stored_size c.args.asides.now c.args.slots.now.items in
     let all : c.loop-place.unsent ≡ count_by (is_untold events) events =
     c.loop-place.invariant.unsent
     ∙ ap (count_by (is_untold events)) (take_all c.loop-place.place events (omega (arith, many, c.loop-place-test.false, c.len-place-end.ensures))) in

@@ -20,7 +20,7 @@ loop-question-preserved g c =
     ap (map plain_asked) (take_more questions i q c.loop-question-test.true) ∙ map_push plain_asked (take i questions) (get_or questions i q)
     ∙ ap (λ (x : LogQuestion). so_far ++ plain_asked x ∷ []) (sym c.question-item.is) in (
       before.0 ++ one.0 ∷ [],
-      subst (λ (asked : List Asked). AreAnswers a.log.now.nodes a.log.now.labels a.log.now.log a.log.now.full asked (before.0 ++ one.0 ∷ [])) (sym more)
-          (answers_push a.log.now.nodes a.log.now.labels a.log.now.log a.log.now.full so_far before.0 (plain_asked q) one.0 before.1 one.1),
+      subst (λ (asked : List Asked). AreAnswers a.log.now.files a.log.now.nodes a.log.now.labels a.log.now.log a.log.now.full asked (before.0 ++ one.0 ∷ [])) (sym more)
+          (answers_push a.log.now.files a.log.now.nodes a.log.now.labels a.log.now.log a.log.now.full so_far before.0 (plain_asked q) one.0 before.1 one.1),
       adds_joined _ _ _ _ _ _ before.0 (one.0 ∷ []) before.2 (adds_one _ _ _ _ one.0 one.2),
     )

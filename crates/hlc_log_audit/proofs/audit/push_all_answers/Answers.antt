@@ -11,7 +11,7 @@ returns g c =
     let first = c.in_ok-push_answers.ensures in
     on_ok_weaker c.push_answers-2.result (λ last. (
       first.0 ++ last.0,
-      answers_join log.nodes log.labels log.log log.full (map plain_asked log.questions) (map plain_asked c.args.asked.now) first.0 last.0
+      answers_join log.files log.nodes log.labels log.log log.full (map plain_asked log.questions) (map plain_asked c.args.asked.now) first.0 last.0
           (rw (sym c.questions.ensures) first.1) last.1,
       adds_joined _ _ _ _ _ _ first.0 last.0 first.2 last.2,
     )) c.push_answers-2.ensures

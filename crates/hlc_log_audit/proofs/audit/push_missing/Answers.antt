@@ -11,7 +11,7 @@ returns g c =
     let outside = counted_row (codes "outside") c.count_missing-missing.result.outside in
     let unread = counted_row (codes "unread") c.count_missing-missing.result.unread in
     let unstamped = counted_row (codes "unstamped") c.count_missing-missing.result.unstamped in
-    let skipped = skipped_row c.args.skipped in
+    let skipped = skipped_row c.args.files.now c.args.skipped in
     subst (λ (rows : List Fields).
     OnOk c.push_skipped.result
     (AddsRows g.W.Write.contents c.args.writer.now c.push_skipped.new.writer c.args.rows.now c.push_skipped.new.rows rows))

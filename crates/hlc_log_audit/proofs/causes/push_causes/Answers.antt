@@ -24,5 +24,5 @@ returns-then-not-carries_wrongly g c =
       replicate n no_causes,
       none_named log full n (λ e lt. no_cause_at log ordered right full c.args.counts c.requires.counts all e),
       subst (λ (added : List Fields). AddsText at at rows rows (text_of added))
-          (sym (no_cause_rows log c.args.nodes.now n (none_wrong_at log ordered right))) (adds_none at rows),
+          (sym (no_cause_rows log c.args.files.now c.args.nodes.now full n (none_wrong_at log ordered right))) (adds_none at rows),
     )

@@ -18,7 +18,7 @@ loop-place-preserved g c =
     let found = c.causes_of-found.result in (
       before.0 ++ found ∷ [],
       causes_push log c.args.full place before.0 found before.1 c.causes_of-found.ensures.causes,
-      adds_cause log c.args.nodes.now _ _ _ _ _ _ place before.0 found before.1.one_each before.2 c.in_ok-push_causes_of.ensures,
+      adds_cause log c.args.files.now c.args.nodes.now c.args.full _ _ _ _ _ _ place before.0 found before.1.one_each before.2 c.in_ok-push_causes_of.ensures,
     )
 
 pub returns : goal.returns
@@ -30,5 +30,5 @@ returns g c =
       told.0,
       subst (λ (n : ℕ). AreCausesBefore log c.args.full n told.0) all told.1,
       subst (λ (n : ℕ). AddsText (at c.args.writer.now) (at c.loop-place.writer) c.args.rows.now c.loop-place.rows
-          (text_of (flat_map (row_at log c.args.nodes.now told.0) (places_below n)))) all told.2,
+          (text_of (flat_map (row_at log c.args.files.now c.args.nodes.now c.args.full told.0) (places_below n)))) all told.2,
     )

@@ -12,4 +12,4 @@ abbrev pub invariant-loop-place : goal.invariant-loop-place
 invariant-loop-place g l =
     (causes : List Causes) × AreCausesBefore l.log l.full l.place causes
     × AddsText (g.W.Write.contents l.fn.writer) (g.W.Write.contents l.writer) l.fn.rows l.rows
-    (text_of (flat_map (row_at l.log l.nodes causes) (places_below l.place)))
+    (text_of (flat_map (row_at l.log l.files l.nodes l.full causes) (places_below l.place)))

@@ -7,8 +7,8 @@ abbrev pub invariant-loop-low : goal.invariant-loop-low
 invariant-loop-low l = record {
   order : l.low ≤ l.high;
   end : l.high ≤ length l.log.events;
-  before : (e : ℕ) → e < l.low → (event_at l.log.events e).line < l.line.0;
-  after : (e : ℕ) → l.high ≤ e → e < length l.log.events → l.line.0 < (event_at l.log.events e).line;
+  before : (e : ℕ) → e < l.low → (event_at l.log.events e).line < l.line;
+  after : (e : ℕ) → l.high ≤ e → e < length l.log.events → l.line < (event_at l.log.events e).line;
 }
 
 abbrev pub decreases-loop-low : goal.decreases-loop-low

@@ -34,7 +34,7 @@ loop-node-init g c = adds_none (g.W.Write.contents c.args.writer.now) c.args.row
 
 pub loop-node-preserved : goal.loop-node-preserved
 loop-node-preserved g c =
-    adds_row_of_place _ _ _ _ _ _ (node_row c.args.nodes.now c.args.log.now) c.loop-node.node c.loop-node.invariant c.in_ok-push_node.ensures
+    adds_row_of_place _ _ _ _ _ _ (node_row c.args.files.now c.args.nodes.now c.args.log.now) c.loop-node.node c.loop-node.invariant c.in_ok-push_node.ensures
 
 pub returns : goal.returns
 returns g c =
@@ -42,4 +42,4 @@ returns g c =
     let at = g.W.Write.contents in
     let all : c.loop-node.node ≡ length nodes = omega (arith, c.len-node-end.ensures) in
     subst (λ (n : ℕ). AddsText (at c.args.writer.now) (at c.loop-node.writer) c.args.rows.now c.loop-node.rows
-    (text_of (map (node_row nodes c.args.log.now) (places_below n)))) all c.loop-node.invariant
+    (text_of (map (node_row c.args.files.now nodes c.args.log.now) (places_below n)))) all c.loop-node.invariant

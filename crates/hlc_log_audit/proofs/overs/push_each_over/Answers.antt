@@ -14,7 +14,7 @@ loop-node-init g c = adds_none (g.W.Write.contents c.args.writer.now) c.args.row
 pub loop-node-preserved : goal.loop-node-preserved
 loop-node-preserved g c =
     let overs = c.args.overs.now in
-    adds_place _ _ _ _ _ _ (λ (node : ℕ). over_row c.args.log.now.nodes c.args.log.now.log node (slice_index_or overs node None))
+    adds_place _ _ _ _ _ _ (λ (node : ℕ). over_row c.args.log.now.files c.args.log.now.nodes c.args.log.now.log node (slice_index_or overs node None))
     c.loop-node.node c.loop-node.invariant c.in_ok-push_if_over.ensures
 
 pub push_if_over-requires : goal.push_if_over-requires
@@ -30,6 +30,6 @@ returns g c =
     let overs = c.args.overs.now in
     let all : c.loop-node.node ≡ length c.args.log.now.nodes = omega (arith, c.len-node-end.ensures, ap (λ (names : List (List ℕ)). length names) c.nodes.ensures.value) in
     let rows = λ (n : ℕ).
-    flat_map (λ (node : ℕ). over_row c.args.log.now.nodes c.args.log.now.log node (slice_index_or overs node None)) (places_below n) in
+    flat_map (λ (node : ℕ). over_row c.args.log.now.files c.args.log.now.nodes c.args.log.now.log node (slice_index_or overs node None)) (places_below n) in
     subst (λ (n : ℕ). AddsText (at c.args.writer.now) (at c.loop-node.writer) c.args.rows.now c.loop-node.rows (text_of (rows n))) all
     c.loop-node.invariant

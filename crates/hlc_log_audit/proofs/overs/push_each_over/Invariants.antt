@@ -10,4 +10,4 @@ use Rattle.hlc_log_audit.proofs.overs.push_each_over.Given as goal
 abbrev pub invariant-loop-node : goal.invariant-loop-node
 invariant-loop-node g l =
     AddsText (g.W.Write.contents l.fn.writer) (g.W.Write.contents l.writer) l.fn.rows l.rows
-    (text_of (flat_map (λ (node : ℕ). over_row l.log.nodes l.log.log node (slice_index_or l.overs node None)) (places_below l.node)))
+    (text_of (flat_map (λ (node : ℕ). over_row l.log.files l.log.nodes l.log.log node (slice_index_or l.overs node None)) (places_below l.node)))

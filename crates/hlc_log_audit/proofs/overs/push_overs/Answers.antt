@@ -1,4 +1,4 @@
-use Rattle.std.proofs.Common.{◌≡◌, ◌∙◌, List, Option, ℕ, ap, length, refl, subst, sym}
+use Rattle.std.proofs.Common.{◌≡◌, List, Option, ℕ, length, refl, subst, sym}
 use Rattle.std.proofs.lemmas.Result.{on_ok_weaker}
 use Rattle.hlc_log_report.specs.InOrder.{LogInOrder}
 use Rattle.hlc_log_audit.specs.OverLimit.{AreOvers}
@@ -24,8 +24,8 @@ returns-in_ok-overs-in-Some g c =
     let opened = c.args.log.now in
     let overs = c.deref.result.now in
     on_ok_weaker c.push_each_over.result (λ added. (
-      over_rows opened.nodes opened.log overs,
-      subst (λ (limit : Option ℕ). AreOverRows opened.nodes opened.log limit (over_rows opened.nodes opened.log overs)) (sym c.in-Some.is) (
+      over_rows opened.files opened.nodes opened.log overs,
+      subst (λ (limit : Option ℕ). AreOverRows opened.files opened.nodes opened.log limit (over_rows opened.files opened.nodes opened.log overs)) (sym c.in-Some.is) (
         overs,
         subst (AreOvers c.in-Some.limit (length opened.nodes) opened.log.events) (sym c.deref.ensures.value)
             (named c.in-Some.limit opened.log c.ordered.result.now (length opened.nodes) c.in_ok-overs-in-Some.overs.items c.ordered.ensures.value

@@ -32,7 +32,7 @@ loop-between-preserved g c =
     let here : SkewNodes × Skew = (c.in-Some.between.now, c.in-Some.skew.now) in (
       told.0 ++ here ∷ [],
       append_assoc told.0 (here ∷ []) c.next.new.self ∙ ap (λ (rest : Skews). told.0 ++ rest) (sym c.in-Some.ensures.steps) ∙ told.1,
-      adds_row _ _ _ _ _ _ (skew_row c.args.nodes.now c.args.log.now) told.0 here told.2 c.in_ok-push_skew.ensures,
+      adds_row _ _ _ _ _ _ (skew_row c.args.files.now c.args.nodes.now c.args.log.now) told.0 here told.2 c.in_ok-push_skew.ensures,
     )
 
 pub returns : goal.returns
@@ -41,4 +41,4 @@ returns g c =
     let at = g.W.Write.contents in
     let all : told.0 ≡ c.args.skews.now.entries = sym (append-nil told.0) ∙ ap (λ (rest : Skews). told.0 ++ rest) (sym c.in-None.ensures.steps.0) ∙ told.1 in
     subst (λ (skews : Skews). AddsText (at c.args.writer.now) (at c.loop-between.writer) c.args.rows.now c.loop-between.rows
-    (text_of (map (skew_row c.args.nodes.now c.args.log.now) skews))) all told.2
+    (text_of (map (skew_row c.args.files.now c.args.nodes.now c.args.log.now) skews))) all told.2

@@ -8,4 +8,4 @@ use Rattle.hlc_log_audit.proofs.skews.push_skews.Given as goal
 abbrev pub invariant-loop-between : goal.invariant-loop-between
 invariant-loop-between g l =
     (told : Skews) × (told ++ l.between-iterator ≡ l.skews.entries)
-    × AddsText (g.W.Write.contents l.fn.writer) (g.W.Write.contents l.writer) l.fn.rows l.rows (text_of (map (skew_row l.nodes l.log) told))
+    × AddsText (g.W.Write.contents l.fn.writer) (g.W.Write.contents l.writer) l.fn.rows l.rows (text_of (map (skew_row l.files l.nodes l.log) told))

@@ -1,4 +1,4 @@
-use Rattle.std.proofs.Common.{◌≡◌, ◌∙◌, ℕ, length, replicate, ap, arith, refl, subst, sym}
+use Rattle.std.proofs.Common.{◌≡◌, ◌∙◌, ℕ, length, replicate, ap, arith, subst, sym}
 use Rattle.hlc_log_audit.specs.Tally.{AreTalliesBefore, no_tally}
 use Rattle.hlc_log_audit.proofs.Tallies.{tallies_begin}
 use Rattle.hlc_log_audit.proofs.tally.tally_nodes.Goals as goal

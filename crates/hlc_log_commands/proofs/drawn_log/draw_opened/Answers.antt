@@ -11,7 +11,7 @@ returns-clause-done g c =
       drawn = c.in_ok-pictured.pictured;
       is_drawn =
           drawn_of c.args.log.now c.put_in_row_order.new.log c.in_ok-pictured.pictured c.in_ok-put_in_row_order.ensures.same pictured.ordered
-          c.in_ok-put_in_row_order.ensures.by_stamp pictured.log pictured.nodes pictured.labels pictured.judged;
+          c.in_ok-put_in_row_order.ensures.by_stamp pictured.log pictured.files pictured.nodes pictured.labels pictured.judged;
       picture = picture;
     }) c.draw_part.ensures.done
 
@@ -24,7 +24,7 @@ returns-clause-without g c =
       drawn = c.in_ok-pictured.pictured;
       is_drawn =
           drawn_of c.args.log.now c.put_in_row_order.new.log c.in_ok-pictured.pictured c.in_ok-put_in_row_order.ensures.same pictured.ordered
-          c.in_ok-put_in_row_order.ensures.by_stamp pictured.log pictured.nodes pictured.labels pictured.judged;
+          c.in_ok-put_in_row_order.ensures.by_stamp pictured.log pictured.files pictured.nodes pictured.labels pictured.judged;
       absent = lacks.0;
       nothing = lacks.1;
     }

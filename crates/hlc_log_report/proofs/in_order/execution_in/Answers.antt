@@ -9,7 +9,7 @@ use Rattle.hlc_log.specs.CausalOrder.{IsCausalOrder}
 use Rattle.hlc_log.specs.Events.{IsMessageBelow, IsNumbered, event_at}
 use Rattle.hlc_log.specs.Messages.{AreMessagesSound}
 use Rattle.hlc_log.specs.declared.log_event.LogEvent.{LogEvent}
-use Rattle.hlc_log_report.specs.InOrder.{AreOfNodes, AreSendsOf, HasFirst, HasOneMore, NamesSendIn, send_received}
+use Rattle.hlc_log_report.specs.InOrder.{AreOfNodes, AreSendsOf, HasFirst, NamesSendIn, send_received}
 use Rattle.hlc_log_report.proofs.Executions.{has_all, has_next, has_none, next_follows}
 use Rattle.hlc_log_report.proofs.Ordering.{length-with_send, next_exists, next_few, next_in_range, next_named, next_numbered, next_told, next_within, no_sends, sends_are_kept}
 use Rattle.hlc_log_report.proofs.in_order.execution_in.Goals as goal

@@ -1,4 +1,4 @@
-use Rattle.hlc_log_report.proofs.Rearranged.{counts_agree, messages_agree, rearranged_logs_tell_the_same}
+use Rattle.hlc_log_report.proofs.Rearranged.{counts_agree, messages_agree, rearranged_logs_tell_the_same, unit_factors_agree}
 use Rattle.hlc_log_report.proofs.laws.rearranged_logs_agree.Goals as goal
 
 pub returns : goal.returns
@@ -6,4 +6,5 @@ returns c = record {
   same = rearranged_logs_tell_the_same;
   counts = counts_agree;
   messages = messages_agree;
+  units = unit_factors_agree;
 }

@@ -1,4 +1,4 @@
-use Rattle.std.proofs.Common.{◌≡◌, ◌∙◌, Bool, true, false, ap, sym}
+use Rattle.std.proofs.Common.{◌≡◌, ◌∙◌, true, false, ap, sym}
 use Rattle.hlc_log_report.specs.Skew.{is_greater, skew_between}
 use Rattle.hlc_log_report.proofs.SkewOrder.{not_at}
 use Rattle.hlc_log_report.proofs.skews.take_skew.Goals as goal

@@ -16,6 +16,7 @@ of_its_name column.From = refl
 of_its_name column.Carried = refl
 of_its_name column.CarriedL = refl
 of_its_name column.CarriedC = refl
+of_its_name column.Seq = refl
 of_its_name column.Label = refl
 
 pub returns-clause-names : goal.returns-clause-names

@@ -37,8 +37,6 @@ returns c =
     c.as_slice.ensures.value ∙ c.in_ok-put_node.ensures ∙ ap (λ (t : List ℕ). t ++ at_node (node_text c.nodes.result.now)) c.clear.ensures.items
     ∙ ap at_node names in
     let place = c.place.ensures ∙ ap (λ (l : LogInOrder). place_at l.order k) c.ordered-ordered.ensures.value in
-    let label =
-    c.plain_label-label.ensures ∙ ap (λ (labels : List (ℕ × List ℕ)). plain_label labels c.place.result.0) c.labels.ensures
-    ∙ ap (plain_label opened.labels) place in
+    let label = c.plain_label-label.ensures ∙ ap (plain_label opened.labels) place in
     on_ok_weaker c.put_row.result
-    (event_is_put opened k c.event-event.result c.vector.result.now _ _ c.args.text.now.items _ _ event vector label node line) c.put_row.ensures
+    (event_is_put opened k c.files.result.now c.event-event.result c.vector.result.now _ _ c.args.text.now.items _ _ c.files.ensures event vector label node line) c.put_row.ensures

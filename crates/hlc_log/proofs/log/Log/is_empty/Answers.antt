@@ -12,9 +12,9 @@ no_events (event ∷ events) is = absurd (omega (arith, is))
 pub returns : goal.returns
 returns c =
     let slots = c.self.inside.slots.items in
-    let carried = c.self.inside.carried in
+    let asides = c.self.inside.asides in
     let seen = ap (λ (log : StoredLog). length log.events) c.self.view_is in
-    let size = stored_size carried slots in (
+    let size = stored_size asides slots in (
       λ is. no_events c.args.self.now.events (omega (arith, seen, size, c.len.ensures, eqb-true c.len.result 0 is)),
       λ is. eq-eqb c.len.result 0 (omega (arith, seen, size, c.len.ensures, ap (λ (events : List LogEvent). length events) is)),
     )

@@ -1,4 +1,4 @@
-use Rattle.std.proofs.Common.{◌≡◌, ◌∙◌, ◌<◌, Bor, List, ℕ, [], ◌∷◌, ◌++◌, Option, None, Some, ap, length, refl, subst, sym}
+use Rattle.std.proofs.Common.{◌≡◌, ◌∙◌, ◌<◌, Bor, false, List, ℕ, [], ◌∷◌, ◌++◌, Option, None, Some, ap, length, refl, subst, sym}
 use Rattle.std.specs.Prelude.{option_map}
 use Rattle.std.proofs.lemmas.Option.{get_or_from_slice_get, slice_get_within}
 use Rattle.hlc_log.specs.declared.log_event.TheConstants.{MAX_LOG_NODES}
@@ -8,16 +8,16 @@ use Rattle.hlc_log_text.specs.LogItem.{events_in}
 use Rattle.hlc_log_text.specs.LogText.{name_of, node_names, with_names}
 use Rattle.hlc_log_text.specs.Names.{with_name}
 use Rattle.hlc_log_text.specs.PartialLog.{IsPartialLog, NumbersNode}
-use Rattle.hlc_log_text.specs.NamedEvent.{NamedEvent, carrying, told_by, without_asides}
+use Rattle.hlc_log_text.specs.NamedEvent.{NamedEvent, told_by, with_extras, without_asides}
 use Rattle.hlc_log_text.specs.declared.partial_log.PartialLog.{PartialLog}
 use Rattle.hlc_log_text.proofs.LogFacts.{is_reading-more, node_names-push}
 use Rattle.hlc_log_text.proofs.partial_log.PartialLog.add.Goals as goal
 
-pub returns-in_default : goal.returns-in_default
-returns-in_default c items lines h =
+pub returns-in_default-clause-added : goal.returns-in_default-clause-added
+returns-in_default-clause-added c items lines h =
     let label = option_map (λ (l : Bor (List ℕ)). l.now) c.args.names.label in
     let from = option_map (λ (l : Bor (List ℕ)). l.now) c.args.names.from in
-    let r = carrying c.args.carried (told_by c.args.head c.args.names.node.now c.args.names.message.now from label) in
+    let r = with_extras c.args.extras (told_by c.args.head c.args.names.node.now c.args.names.message.now from label) in
     let old = c.args.self.now in
     let over : NumbersNode old.nodes c.number_node.new.nodes c.args.names.node.now None = rw c.in_default.is at c.in_ok-node.ensures in
     let names : with_name c.args.self.now.nodes c.args.names.node.now ≡ node_names (events_in items ++ r ∷ []) =
@@ -34,6 +34,9 @@ returns-in_default c items lines h =
       hints = c.number_node.new.hints;
       skipped = old.skipped;
       left_out = old.left_out;
+      sent = old.sent;
+      files = old.files;
+      at_start = old.at_start;
     } in (
       subst (λ (names : List (List ℕ)). MAX_LOG_NODES < length names) names over.0,
       subst (λ (nodes : List (List ℕ)). IsPartialLog items lines (now nodes)) (sym over.1) (record {
@@ -49,10 +52,14 @@ returns-in_default c items lines h =
         senders = h.senders;
         skipped = h.skipped;
         left_out = h.left_out;
+        sent = h.sent;
+        files = h.files;
+        marks = h.marks;
+        at_start = h.at_start;
       }),
     )
 
-module _ (c : goal.After-self-1) where
+module _ (c : goal.After-self-2-1) where
   abbrev event : LogEvent
   event = record {
     node = c.in-Some.node;
@@ -61,7 +68,8 @@ module _ (c : goal.After-self-1) where
     kind = c.in_ok-kind.kind;
     stamp = c.args.head.stamp;
     has_stamp = c.args.head.has_stamp;
-    carried = c.args.carried;
+    carried = c.args.extras.carried;
+    seq = c.args.extras.seq;
     line = c.args.line;
   }
 
@@ -73,7 +81,7 @@ module _ (c : goal.After-self-1) where
 
   abbrev named : NamedEvent
   named =
-      carrying c.args.carried (told_by c.args.head c.args.names.node.now c.args.names.message.now
+      with_extras c.args.extras (told_by c.args.head c.args.names.node.now c.args.names.message.now
       (option_map (λ (l : Bor (List ℕ)). l.now) c.args.names.from) (option_map (λ (l : Bor (List ℕ)). l.now) c.args.names.label))
 
   told : with_names c.number_node.new.nodes c.number_message.new.messages event ≡ without_asides named
@@ -82,7 +90,8 @@ module _ (c : goal.After-self-1) where
     node = node_is i;
     message = c.in_ok-kind.ensures.message i;
     from = None;
-    carried = c.args.carried;
+    carried = c.args.extras.carried;
+    seq = c.args.extras.seq;
     label = None;
   }
 
@@ -90,8 +99,8 @@ module _ (c : goal.After-self-1) where
   place : c.len.result ≡ length c.args.self.now.log.events
   place = c.len.ensures.value
 
-pub returns : goal.returns
-returns c items lines h =
+pub returns-clause-added : goal.returns-clause-added
+returns-clause-added c items lines h =
     let new : PartialLog = record {
       log = c.push.new.self;
       nodes = c.number_node.new.nodes;
@@ -104,6 +113,9 @@ returns c items lines h =
       hints = c.number_node.new.hints;
       skipped = c.args.self.now.skipped;
       left_out = c.args.self.now.left_out;
+      sent = c.mark.new.self;
+      files = c.args.self.now.files;
+      at_start = false;
     } in
     is_reading-more items lines c.args.self.now new (named c) (event c) h record {
       pushed = c.in_ok-push.ensures.events;
@@ -122,4 +134,8 @@ returns c items lines h =
       columns = refl;
       skipped = refl;
       left_out = refl;
+      kept = c.mark.ensures.kept;
+      marks = c.in_ok-mark.ensures.marks;
+      files = refl;
+      at_start = refl;
     }

@@ -1,11 +1,11 @@
-use Rattle.std.proofs.Common.{◌∙◌, refl, sym}
+use Rattle.std.proofs.Common.{◌∙◌, false, refl, sym}
 use Rattle.hlc_log_text.specs.LogItem.{Fails}
 use Rattle.hlc_log_text.specs.declared.partial_log.PartialLog.{PartialLog}
-use Rattle.hlc_log_text.proofs.LogFacts.{failed_left_out, failed_questions, failed_skipped, is_aside-more}
+use Rattle.hlc_log_text.proofs.LogFacts.{failed_left_out, failed_questions, failed_skipped, files_kept, is_aside-more, marks_kept}
 use Rattle.hlc_log_text.proofs.partial_log.PartialLog.leave_out.Goals as goal
 
-pub returns : goal.returns
-returns c items lines h next =
+pub returns-clause-left : goal.returns-clause-left
+returns-clause-left c items lines h next =
     let old = c.args.self.now in
     let b = c.args.bad in
     let new : PartialLog = record {
@@ -20,6 +20,9 @@ returns c items lines h next =
       hints = old.hints;
       skipped = old.skipped;
       left_out = c.push.new.self;
+      sent = old.sent;
+      files = old.files;
+      at_start = false;
     } in (
       sym c.leaves_out.ensures ∙ c.if-not-leaves_out.false,
       is_aside-more items lines old new (Fails b.why) h record {
@@ -28,13 +31,16 @@ returns c items lines h next =
         messages = refl;
         labels = refl;
         senders = refl;
+        sent = refl;
         questions = failed_questions items lines old b h;
         next = next;
         columns = refl;
         skipped = failed_skipped items lines old b h;
         left_out = failed_left_out items lines old b h c.push.new.self.items c.in_ok-push.ensures.items;
+        files = files_kept items lines old (Fails b.why) b.line h refl;
+        marks = marks_kept items lines old (Fails b.why) b.line h next;
+        at_start = refl;
         no_event = refl;
-        no_columns = refl;
         tells_nothing = refl;
       },
     )

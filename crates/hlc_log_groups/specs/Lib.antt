@@ -1,0 +1,4 @@
+pub mod Followed
+pub mod GroupRows
+pub mod Groups
+pub mod Laws

@@ -1,0 +1,75 @@
+// The audit of a log with the groups of its causes.
+
+ghost use Rattle.std.specs.Prelude.{◌≡◌, ℕ, IfOk, IsErrOf, List, Option, length};
+ghost use Rattle.std.specs.Io.KnownBytes.{Appends};
+ghost use Rattle.hlc_stamp.specs.declared.limits.TheConstants.{MAX_CAPACITY};
+ghost use Rattle.hlc_csv.specs.Rows.{Fields, text_of};
+ghost use Rattle.hlc_log_text.specs.ReadLog.{HasTooMany};
+ghost use Rattle.hlc_log_text.specs.StampForms.{greatest_c};
+ghost use Rattle.hlc_log_audit.specs.Audit.{AreRowsTold, IsOutcome, TellsEvents, all_asked};
+ghost use Rattle.hlc_log_groups.specs.GroupRows.{AreGroupRowsIf, IsGroupedAudit};
+
+use crate::group_rows::write_groups;
+use hlc_csv::{OutputFault, RecordsFault};
+use hlc_log_audit::{AuditRules, Audited, Outcome, audit_opened};
+use hlc_log_text::{LogQuestion, NameKey};
+use hlc_open_log::{OpenFault, OpenLog, open_log, tell_bad};
+use hlc_stamp::MAX_CAPACITY;
+use std::alloc::Global;
+use std::io::{Read, Write};
+
+// Writes the rows that tell of a log that was opened by these rules, and then those of the groups of its causes, if they are to be told.
+fn audit_opened_grouped<W: Write>(
+    alloc: Global,
+    log: &OpenLog,
+    rules: AuditRules,
+    grouped: bool,
+    asked: &[LogQuestion],
+    key: NameKey,
+    writer: &mut W,
+) -> Result<Audited, OutputFault>
+    requires { log.now.full ≡ greatest_c rules.records.form }
+    ensures told { IfOk result (λ audited. (between : Option (List ℕ)) × (told : List Fields) × (groups : List Fields)
+        × AreRowsTold log.now rules (all_asked log.now.questions asked.now) told × Appends (W.contents writer.old) between (text_of told)
+        × IsOutcome rules log.now.log audited.outcome × AreGroupRowsIf grouped log.now groups
+        × Appends between (W.contents writer.new) (text_of groups)) }
+    ensures counted { IfOk result (λ audited. audited.events ≡ length log.now.log.events) }
+{
+    let audited = audit_opened(alloc, log, rules, asked, writer)?;
+    write_groups(alloc, log, grouped, key, writer)?;
+    Ok(audited)
+}
+
+/// Audits a log as `hlc_log_audit::audit_run` does, and then writes the rows of the groups of its causes, if they are to be told.
+///
+/// The groups are those of the whole log, whether its report is written or not. Of input that is no log none are told.
+pub fn audit_with_groups<R: Read + Drop, W: Write>(
+    alloc: Global,
+    reader: R,
+    writer: &mut W,
+    rules: AuditRules,
+    grouped: bool,
+    asked: &[LogQuestion],
+    key: NameKey,
+) -> Result<Audited, RecordsFault>
+    ensures audited { IfOk result (λ audited. IsGroupedAudit rules grouped asked.now
+        (R.remaining reader) (W.contents writer.old) (W.contents writer.new) audited.outcome) }
+    ensures counted { IfOk result (TellsEvents rules.records MAX_CAPACITY (R.remaining reader)) }
+    ensures read { IsErrOf result RecordsFault.Read → writer.new ≡ writer.old }
+    ensures too_long { IsErrOf result RecordsFault.TooLong → HasTooMany rules.records MAX_CAPACITY (R.remaining reader) }
+    ensures nothing { IsErrOf result RecordsFault.TooLong → writer.new ≡ writer.old }
+{
+    match open_log(alloc, reader, rules.records, MAX_CAPACITY, key) {
+        Ok(log) => Ok(audit_opened_grouped(alloc, &log, rules, grouped, asked, key, writer)?),
+        Err(OpenFault::Bad(bad)) => {
+            tell_bad(alloc, &bad, writer)?;
+            Ok(Audited {
+                outcome: Outcome::BadLog,
+                events: 0,
+            })
+        }
+        Err(OpenFault::Read) => Err(RecordsFault::Read),
+        Err(OpenFault::TooLong) => Err(RecordsFault::TooLong),
+        Err(OpenFault::Memory) => Err(RecordsFault::Memory),
+    }
+}

@@ -1,0 +1,2 @@
+pub mod RoomFacts
+pub mod RowFacts

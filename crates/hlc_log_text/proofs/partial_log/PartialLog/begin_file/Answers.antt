@@ -1,0 +1,5 @@
+use Rattle.hlc_log_text.proofs.LogFacts.{is_begun}
+use Rattle.hlc_log_text.proofs.partial_log.PartialLog.begin_file.Goals as goal
+
+pub returns-clause-begun : goal.returns-clause-begun
+returns-clause-begun c items lines h = is_begun items lines c.args.self.now c.args.name.now c.args.line h c.requires.line c.begin.new.self c.in_ok-begin.ensures.begun

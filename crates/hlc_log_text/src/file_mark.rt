@@ -1,0 +1,23 @@
+ghost use Rattle.std.specs.Prelude.{◌≡◌, option_map};
+ghost use Rattle.hlc_log_text.specs.FileMarks.{file_name};
+
+use crate::record_head::may_be_name;
+use hlc_pages::Bytes;
+
+/// A record of a log that names the file whose lines come after it.
+#[derive(Drop)]
+pub struct FileMark {
+    /// The name of the file.
+    pub name: Bytes<'static>,
+    /// The line of the mark, from 1, counted over all files.
+    pub line: u32,
+}
+
+/// The name of the file that a field marks, as `tail` and `head` write it before each of several files: `==> NAME <==`. It has 1 to `MAX_NAME_LEN`
+/// bytes.
+pub fn file_name(field: &[u8]) -> Option<&[u8]>
+    ensures { option_map (λ name. name.now) result ≡ file_name field.now }
+{
+    let name = field.strip_prefix(b"==> ")?.strip_suffix(b" <==")?;
+    if may_be_name(name) { Some(name) } else { None }
+}

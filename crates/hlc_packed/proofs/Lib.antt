@@ -1,0 +1,3 @@
+pub mod PackedOrder
+pub mod RestartFacts
+pub mod StepFacts

@@ -1,0 +1,4 @@
+pub mod Packed
+pub mod Steps
+pub mod Restart
+pub mod Laws

@@ -1,0 +1,249 @@
+-- What is kept is of events that came, and what is told is of events whose records have come.
+use Rattle.std.proofs.Common.{◌≡◌, ◌≢◌, ◌∙◌, ℕ, zero, suc, ◌-◌, ◌<◌, ◌≤◌, ◌⊎◌, Bool, true, false, List, [], ◌∷◌, ◌++◌, Option, Some, None, length, map, Contains, arith, inl, inr, refl, sym, ap, subst}
+use Rattle.std.specs.Prelude.{if◌then◌else◌, ◌==◌, nat_eq, nat_lt, option_map, slice_set}
+use Rattle.std.specs.Map.{lookup, remove_entry}
+use Rattle.std.proofs.lemmas.Bool.{cases_Bool, eqb-true, eq-eqb}
+use Rattle.std.proofs.lemmas.List.{get_or-replicate, get_or-set_other, get_or-set_same, length-replicate, length-set}
+use Rattle.std.proofs.lemmas.List.Elements.{Contains-push_cases}
+use Rattle.lru.specs.LruCache.{lru_cache, promoted, put_entries}
+use Rattle.lru.proofs.CallerLemmas.{Contains-lookup, Contains-promoted, Contains-put_entries, Contains-remove_entry, Contains-take}
+use Rattle.lru.proofs.Splits.{Contains-cons, Contains-nil}
+use Rattle.hlc_causality.specs.declared.receives.Receives.{Receives}
+use Rattle.hlc_log.specs.declared.log_event.LogEvent.{LogEvent}
+use Rattle.hlc_log.specs.declared.log_event.LogKind.{LogKind}
+use Rattle.hlc_log.specs.declared.log_event.LogKind.TheVariants.{Local, Outside, Receive, Restart, Send}
+use Rattle.hlc_log.specs.declared.message_id.MessageId.{MessageId}
+use Rattle.hlc_log.specs.Events.{event_at}
+use Rattle.hlc_log.specs.Messages.{Receives as ReceivesMessage, Sends}
+use Rattle.hlc_watch.specs.declared.records.Claimed.{Claimed}
+use Rattle.hlc_watch.specs.declared.records.Records.{Records}
+use Rattle.hlc_watch.specs.Coming.{NamesSender, claimed_at, latest_of, records_at, ruled_at}
+use Rattle.hlc_watch.specs.Kept.{KeptMessages, received_from, records_with, waited_for, waiting_for, with_latest, with_receive, without_last, receive_count}
+use Rattle.hlc_watch.specs.Laws.{AreFewNodes, AreRecordsOf, TellsRecords, if_any, kept_after, told_as}
+use Rattle.hlc_watch.specs.Records.{with_send}
+use Rattle.hlc_watch.specs.Watching.{KeptLog, after_event, after_kind, event_told, last_at, no_log, records_of, waited_told}
+
+contains_mapped : {X Y : Type 0} (f : X → Y) (xs : List X) (y : Y) → Contains (map f xs) y → (x : X) × Contains xs x × (f x ≡ y)
+contains_mapped f [] y there = absurd (Contains-nil y there)
+contains_mapped f (x ∷ xs) y there = elim (Contains-cons (f x) (map f xs) y there) [
+  | inl same ↦ (x, (0, omega arith, refl), same)
+  | inr later ↦ let found = contains_mapped f xs y later in (found.0, (suc found.1.0, (let within = found.1.1 in omega arith), found.1.2), found.2)
+]
+
+-- what waits for a message is in its list
+pub in_waiting : (awaited : List (ℕ × List Records)) (m : ℕ) (w : Records) → Contains (waiting_for awaited m) w
+    → (ws : List Records) × Contains awaited (m, ws) × Contains ws w
+in_waiting awaited m w there = by_found (lookup (nat_eq m) awaited) refl there
+  where
+    by_found : (o : Option (List Records)) → lookup (nat_eq m) awaited ≡ o → Contains (waiting_for awaited m) w
+        → (ws : List Records) × Contains awaited (m, ws) × Contains ws w
+    by_found None is h = absurd (Contains-nil w (rw is at h))
+    by_found (Some ws) is h =
+        let found = Contains-lookup (nat_eq m) awaited ws is in
+        let same : found.0 ≡ m = sym (eqb-true m found.0 found.2) in
+        (ws, subst (λ k. Contains awaited (k, ws)) same found.1, rw is at h)
+
+module _ (receives : Receives) (events : List LogEvent) where
+  -- what is kept of sent messages is what sends claim among the first n
+  abbrev pub IsSent : ℕ → ℕ × Claimed → Type 0
+  IsSent n x = (d : ℕ) × (d < n) × Sends events d x.0 × (x.1 ≡ claimed_at events d)
+
+  abbrev pub AreSent : ℕ → List (ℕ × Claimed) → Type 0
+  AreSent n sent = (x : ℕ × Claimed) → Contains sent x → IsSent n x
+
+  -- what waits for a message are receives among the first n
+  abbrev pub IsWaiting : ℕ → (m : ℕ) → Records → Type 0
+  IsWaiting n m w = (e : ℕ) × (e < n) × ReceivesMessage events e m × (w ≡ records_at receives events e None)
+
+  abbrev pub AreWaiting : ℕ → List (ℕ × List Records) → Type 0
+  AreWaiting n awaited = (x : ℕ × List Records) → Contains awaited x → (w : Records) → Contains x.1 w → IsWaiting n x.0 w
+
+  -- what is known of what is kept once the first n events have come
+  pub record IsKnown (n : ℕ) (kept : KeptLog) : Type 0 where
+    pub nodes : length kept.last ≡ 65536
+    pub last : (node : ℕ) → node < 65536 → last_at kept.last node ≡ option_map (claimed_at events) (latest_of events node n)
+    pub sent : AreSent n kept.messages.sent
+    pub awaited : AreWaiting n kept.messages.awaited
+
+  sent_later : (n : ℕ) (x : ℕ × Claimed) → IsSent n x → IsSent (suc n) x
+  sent_later n x known = (known.0, (let before = known.1 in omega arith), known.2, known.3)
+
+  waiting_later : (n m : ℕ) (w : Records) → IsWaiting n m w → IsWaiting (suc n) m w
+  waiting_later n m w known = (known.0, (let before = known.1 in omega arith), known.2, known.3)
+
+  none_known : (keep : ℕ) → IsKnown 0 (no_log keep)
+  none_known keep = record {
+    nodes = length-replicate {A = Option Claimed} 65536 None;
+    last = λ node few. get_or-replicate {A = Option Claimed} 65536 node None None few;
+    sent = λ x there. absurd (Contains-nil x there);
+    awaited = λ x there. absurd (Contains-nil x there);
+  }
+
+  -- one event more
+  module _ (n : ℕ) (exists : n < length events) (few : (event_at events n).node.0 < 65536) (kept : KeptLog) (known : IsKnown n kept) where
+    abbrev node : ℕ
+    node = (event_at events n).node.0
+
+    last_next : (other : ℕ) → other < 65536
+        → last_at (slice_set kept.last node (Some (claimed_at events n))) other ≡ option_map (claimed_at events) (latest_of events other (suc n))
+    last_next other other_few = elim (cases_Bool (node == other)) [
+      | inl test ↦ rw (test, sym (eqb-true node other test)) (get_or-set_same kept.last node (Some (claimed_at events n)) None (let size = known.nodes in omega arith))
+      | inr test ↦
+          let differ : other ≢ node = λ same. (let bad : true ≡ false = sym (eq-eqb node other (sym same)) ∙ test in cc) in
+          rw test (get_or-set_other kept.last node other (Some (claimed_at events n)) None differ ∙ known.last other other_few)
+    ]
+
+    abbrev pub own : Records
+    own = records_of kept.last (ruled_at receives events n)
+
+    pub own_is : own ≡ records_at receives events n None
+    own_is = λ i. record { event = ruled_at receives events n; previous = known.last node few i; send = None }
+
+    sends_now : (message : MessageId) → (event_at events n).kind ≡ Send message → Sends events n message.0
+    sends_now message is = record { exists = exists; kind = is }
+
+    receives_now : (message : MessageId) → (event_at events n).kind ≡ Receive message → ReceivesMessage events n message.0
+    receives_now message is = record { exists = exists; kind = is }
+
+    -- sent
+    sent_put : (message : MessageId) → (event_at events n).kind ≡ Send message
+        → AreSent (suc n) (put_entries nat_eq (lru_cache kept.messages.sent kept.messages.keep) message.0 (claimed_at events n))
+    sent_put message is x there = elim (Contains-put_entries nat_eq (lru_cache kept.messages.sent kept.messages.keep) message.0 (claimed_at events n) x there) [
+      | inl before ↦ sent_later n x (known.sent x before)
+      | inr put ↦ (n, omega arith, subst (λ m. Sends events n m) (sym (key put.1)) (sends_now message is), put.0)
+    ]
+      where
+        key : (x.0 ≡ message.0) ⊎ ((w : Claimed) × Contains kept.messages.sent (x.0, w) × (nat_eq message.0 x.0 ≡ true)) → x.0 ≡ message.0
+        key (inl same) = same
+        key (inr there) = sym (eqb-true message.0 x.0 there.2)
+
+    sent_kept : AreSent (suc n) kept.messages.sent
+    sent_kept x there = sent_later n x (known.sent x there)
+
+    sent_first : (m : ℕ) → AreSent (suc n) (promoted (nat_eq m) kept.messages.sent)
+    sent_first m x there = sent_kept x (Contains-promoted (nat_eq m) kept.messages.sent x there)
+
+    -- waiting
+    waiting_kept : AreWaiting (suc n) kept.messages.awaited
+    waiting_kept x there w within = waiting_later n x.0 w (known.awaited x there w within)
+
+    waiting_others : (m : ℕ) → AreWaiting (suc n) (remove_entry (nat_eq m) kept.messages.awaited)
+    waiting_others m x there = waiting_kept x (Contains-remove_entry (nat_eq m) kept.messages.awaited x there)
+
+    waiting_more : (message : MessageId) → (event_at events n).kind ≡ Receive message
+        → AreWaiting (suc n) (with_receive kept.messages.awaited message.0 own)
+    waiting_more message is x there w within = elim (Contains-cons _ _ x there) [
+      | inl same ↦
+          let m_is : message.0 ≡ x.0 = ap (λ (y : ℕ × List Records). y.0) same in
+          let within_list : Contains (waiting_for kept.messages.awaited message.0 ++ own ∷ []) w =
+          subst (λ ws. Contains ws w) (sym (ap (λ (y : ℕ × List Records). y.1) same)) within in
+          subst (λ m. IsWaiting (suc n) m w) m_is (elim (Contains-push_cases (waiting_for kept.messages.awaited message.0) own w within_list) [
+            | inl before ↦
+                let found = in_waiting kept.messages.awaited message.0 w before in
+                waiting_kept (message.0, found.0) found.1 w found.2
+            | inr new ↦ (n, omega arith, receives_now message is, sym new ∙ own_is)
+          ])
+      | inr later ↦ waiting_others message.0 x later w within
+    ]
+
+    waiting_latest : (message : MessageId) → (event_at events n).kind ≡ Receive message
+        → AreWaiting (suc n) (with_latest kept.messages.keep kept.messages.awaited message.0 own)
+    waiting_latest message is = by_test (nat_lt (receive_count kept.messages.awaited) kept.messages.keep)
+      where
+        by_test : (test : Bool) → AreWaiting (suc n) (if test then with_receive kept.messages.awaited message.0 own else without_last (with_receive kept.messages.awaited message.0 own))
+        by_test true = waiting_more message is
+        by_test false = λ x there. waiting_more message is x (Contains-take (length (with_receive kept.messages.awaited message.0 own) - 1) (with_receive kept.messages.awaited message.0 own) x there)
+
+    abbrev AreKnown : KeptMessages → Type 0
+    AreKnown messages = AreSent (suc n) messages.sent × AreWaiting (suc n) messages.awaited
+
+    after_found : (message : MessageId) → (event_at events n).kind ≡ Receive message → (o : Option Claimed)
+        → AreKnown (received_from kept.messages message.0 own o)
+    after_found message is None = (sent_kept, waiting_latest message is)
+    after_found message is (Some c) = (sent_first message.0, waiting_kept)
+
+    messages_next : (kind : LogKind) → (event_at events n).kind ≡ kind → AreKnown (after_kind kept.messages own kind)
+    messages_next Local is = (sent_kept, waiting_kept)
+    messages_next Restart is = (sent_kept, waiting_kept)
+    messages_next Outside is = (sent_kept, waiting_kept)
+    messages_next (Send message) is = (sent_put message is, waiting_others message.0)
+    messages_next (Receive message) is = after_found message is (lookup (nat_eq message.0) kept.messages.sent)
+
+    pub known_next : IsKnown (suc n) (after_event kept (ruled_at receives events n))
+    known_next =
+        let messages = messages_next (event_at events n).kind refl in
+        record {
+          nodes = length-set kept.last node (Some (claimed_at events n)) ∙ known.nodes;
+          last = last_next;
+          sent = messages.0;
+          awaited = messages.1;
+        }
+
+    -- what is told
+    own_records : NamesSender events n None → AreRecordsOf receives events n own
+    own_records names = record { place = n; send = None; names = names; are = own_is; last = refl }
+
+    abbrev AreTold : List Records → Type 0
+    AreTold told = (records : Records) → Contains told records → AreRecordsOf receives events n records
+
+    told_alone : NamesSender events n None → AreTold (own ∷ [])
+    told_alone names records there = elim (Contains-cons own [] records there) [
+      | inl same ↦ subst (λ r. AreRecordsOf receives events n r) same (own_records names)
+      | inr later ↦ absurd (Contains-nil records later)
+    ]
+
+    told_waited : (message : MessageId) → (event_at events n).kind ≡ Send message → AreTold (waited_for kept.messages message.0 (claimed_at events n))
+    told_waited message is records there =
+        let w = contains_mapped (with_send (claimed_at events n)) (waiting_for kept.messages.awaited message.0) records there in
+        let found = in_waiting kept.messages.awaited message.0 w.0 w.1 in
+        let (e, before, receives_it, w_is) = known.awaited (message.0, found.0) found.1 w.0 found.2 in
+        record {
+          place = e;
+          send = Some n;
+          names = (message.0, sends_now message is, receives_it);
+          are = sym w.2 ∙ ap (with_send (claimed_at events n)) w_is;
+          last = omega arith;
+        }
+
+    told_received : (message : MessageId) → (event_at events n).kind ≡ Receive message → (o : Option Claimed)
+        → lookup (nat_eq message.0) kept.messages.sent ≡ o → AreTold (if_any (records_with own o) ++ [])
+    told_received message is None found records there = absurd (Contains-nil records there)
+    told_received message is (Some c) found records there = elim (Contains-cons (with_send c own) [] records there) [
+      | inr later ↦ absurd (Contains-nil records later)
+      | inl same ↦
+          let at = Contains-lookup (nat_eq message.0) kept.messages.sent c found in
+          let (d, before, sends, c_is) = known.sent (at.0, c) at.1 in
+          let key : at.0 ≡ message.0 = sym (eqb-true message.0 at.0 at.2) in
+          record {
+            place = n;
+            send = Some d;
+            names = (message.0, subst (λ m. Sends events d m) key sends, receives_now message is);
+            are = sym same ∙ ap (with_send c) own_is ∙ ap (λ (x : Claimed). with_send x (records_at receives events n None)) c_is;
+            last = omega arith;
+          }
+    ]
+
+    not_received : (kind : LogKind) → (event_at events n).kind ≡ kind → ((message : MessageId) → kind ≢ Receive message) → NamesSender events n None
+    not_received kind is other m received = other (record { 0 = m }) (sym is ∙ received.kind)
+
+    told_by_kind : (kind : LogKind) → (event_at events n).kind ≡ kind → AreTold (if_any (event_told kept.messages own kind) ++ waited_told kept.messages own kind)
+    told_by_kind Local is = told_alone (not_received Local is (λ m same. cc))
+    told_by_kind Restart is = told_alone (not_received Restart is (λ m same. cc))
+    told_by_kind Outside is = told_alone (not_received Outside is (λ m same. cc))
+    told_by_kind (Send message) is = λ records there. elim (Contains-cons own (waited_for kept.messages message.0 (claimed_at events n)) records there) [
+      | inl same ↦ subst (λ r. AreRecordsOf receives events n r) same (own_records (not_received (Send message) is (λ m other. cc)))
+      | inr waited ↦ told_waited message is records waited
+    ]
+    told_by_kind (Receive message) is = told_received message is (lookup (nat_eq message.0) kept.messages.sent) refl
+
+    pub told_next : AreTold (told_as kept (ruled_at receives events n))
+    told_next = told_by_kind (event_at events n).kind refl
+
+  pub known_after : (keep : ℕ) → AreFewNodes events → (n : ℕ) → n ≤ length events → IsKnown n (kept_after receives keep events n)
+  known_after keep few zero within = none_known keep
+  known_after keep few (suc n) within =
+      known_next n (omega arith) (few n (omega arith)) (kept_after receives keep events n) (known_after keep few n (omega arith))
+
+pub tells_records : TellsRecords
+tells_records receives keep events n records few exists told =
+    told_next receives events n exists (few n exists) (kept_after receives keep events n) (known_after receives events keep few n (omega arith)) records told

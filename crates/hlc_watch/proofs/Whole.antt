@@ -1,0 +1,320 @@
+-- Where no more events come than messages are kept, nothing is forgotten.
+use Rattle.std.proofs.Common.{◌≡◌, ◌≢◌, ◌∙◌, ℕ, zero, suc, ◌<◌, ◌≤◌, ◌⊎◌, true, false, List, [], ◌∷◌, ◌++◌, Option, Some, None, IsSome, length, map, Contains, arith, inl, inr, refl, sym, ap, subst}
+use Rattle.std.specs.Prelude.{if◌then◌else◌, max, nat_eq, unwrap_or}
+use Rattle.std.specs.Cmp.{nat_eq_equiv}
+use Rattle.std.specs.Map.{lookup, remove_entry}
+use Rattle.std.proofs.lemmas.Bool.{cases_Bool, cases_order, eqb-true, eq-eqb, lt-ltb}
+use Rattle.std.proofs.lemmas.List.Elements.{Contains-append_left, Contains-append_right, Contains-push}
+use Rattle.lru.specs.LruCache.{lru_cache, promoted, put_entries}
+use Rattle.lru.proofs.CallerLemmas.{Contains-lookup, lookup-put_entries}
+use Rattle.lru.proofs.Splits.{Contains-head}
+use Rattle.hlc_causality.specs.declared.receives.Receives.{Receives}
+use Rattle.hlc_log.specs.declared.log_event.LogEvent.{LogEvent}
+use Rattle.hlc_log.specs.declared.log_event.LogKind.{LogKind}
+use Rattle.hlc_log.specs.declared.log_event.LogKind.TheVariants.{Local, Outside, Receive, Restart, Send}
+use Rattle.hlc_log.specs.declared.message_id.MessageId.{MessageId}
+use Rattle.hlc_log.specs.Events.{event_at}
+use Rattle.hlc_log.specs.Messages.{EachIsSentOnce, Receives as ReceivesMessage, Sends}
+use Rattle.hlc_log.proofs.OrderSkeletons.{one_send}
+use Rattle.hlc_watch.specs.declared.records.Claimed.{Claimed}
+use Rattle.hlc_watch.specs.declared.records.Records.{Records}
+use Rattle.hlc_watch.specs.Coming.{NamesSender, claimed_at, last_needed, records_at, ruled_at}
+use Rattle.hlc_watch.specs.Kept.{KeptMessages, received_from, receive_count, records_with, waited_for, waiting_for, with_latest, with_receive, without_last}
+use Rattle.hlc_watch.specs.Laws.{AreFewNodes, IsToldAt, TellsAll, if_any, kept_after, told_as}
+use Rattle.hlc_watch.specs.Records.{with_send}
+use Rattle.hlc_watch.specs.Watching.{KeptLog, after_event, after_kind, event_told, no_log, waited_told}
+use Rattle.hlc_watch.proofs.Bounds.{count-with_receive, count-remove}
+use Rattle.hlc_watch.proofs.Entries.{length-promoted, length-put, lookup-others, lookup-promoted, lookup-put_others}
+use Rattle.hlc_watch.proofs.Knowledge.{IsKnown, known_after, own, own_is}
+
+mapped_there : {X Y : Type 0} (f : X → Y) (xs : List X) (x : X) → Contains xs x → Contains (map f xs) (f x)
+mapped_there f [] x there = let within = there.1 in absurd (omega arith)
+mapped_there f (y ∷ xs) x (zero, within, is) = (0, omega arith, ap f is)
+mapped_there f (y ∷ xs) x (suc k, within, is) =
+    let later = mapped_there f xs x (k, omega arith, is) in (suc later.0, (let less = later.1 in omega arith), later.2)
+
+differ_by_test : (m k : ℕ) → nat_eq m k ≡ false → m ≢ k
+differ_by_test m k test same = let bad : true ≡ false = sym (eq-eqb m k same) ∙ test in cc
+
+same_sent : (kind : LogKind) (m : ℕ) (message : MessageId) → kind ≡ Send (record { 0 = m }) → kind ≡ Send message → m ≡ message.0
+same_sent kind m message a b =
+    let same : Send (record { 0 = m }) ≡ Send message = sym a ∙ b in
+    let ids : ◌≡◌ {A = MessageId} (record { 0 = m }) message = cc in ap (λ (x : MessageId). x.0) ids
+
+same_received : (kind : LogKind) (m : ℕ) (message : MessageId) → kind ≡ Receive (record { 0 = m }) → kind ≡ Receive message → m ≡ message.0
+same_received kind m message a b =
+    let same : Receive (record { 0 = m }) ≡ Receive message = sym a ∙ b in
+    let ids : ◌≡◌ {A = MessageId} (record { 0 = m }) message = cc in ap (λ (x : MessageId). x.0) ids
+
+-- what waits for another message still does
+waiting_others : (awaited : List (ℕ × List Records)) (m k : ℕ) → m ≢ k → waiting_for (remove_entry (nat_eq k) awaited) m ≡ waiting_for awaited m
+waiting_others awaited m k differ = ap (λ (o : Option (List Records)). unwrap_or o []) (lookup-others m k differ awaited)
+
+some_of : {X : Type 0} (o : Option X) (x : X) → o ≡ Some x → IsSome o
+some_of o x is = rw is refl
+
+get_some : {X : Type 0} (o : Option X) → IsSome o → (x : X) × (o ≡ Some x)
+get_some None some = absurd cc
+get_some (Some x) some = (x, refl)
+
+module _ (receives : Receives) (keep : ℕ) (events : List LogEvent) (nodes : AreFewNodes events) (once : EachIsSentOnce events) (room : length events ≤ keep) where
+  -- nothing is forgotten of the first n events
+  record IsWhole (n : ℕ) (messages : KeptMessages) : Type 0 where
+    pub keep_is : messages.keep ≡ keep
+    pub few_sent : length messages.sent ≤ n
+    pub few_waiting : receive_count messages.awaited ≤ n
+    pub sent : (d m : ℕ) → d < n → Sends events d m → IsSome (lookup (nat_eq m) messages.sent)
+    pub waits : (e m : ℕ) → e < n → ReceivesMessage events e m → ((d : ℕ) → d < n → ¬ Sends events d m)
+        → Contains (waiting_for messages.awaited m) (records_at receives events e None)
+
+  none_whole : IsWhole 0 (no_log keep).messages
+  none_whole = record {
+    keep_is = refl;
+    few_sent = omega arith;
+    few_waiting = omega arith;
+    sent = λ d m before. absurd (omega arith);
+    waits = λ e m before. absurd (omega arith);
+  }
+
+  module _ (n : ℕ) (exists : n < length events) (kept : KeptLog) (known : IsKnown receives events n kept) (whole : IsWhole n kept.messages) where
+    abbrev messages : KeptMessages
+    messages = kept.messages
+
+    abbrev mine : Records
+    mine = own receives events n exists (nodes n exists) kept known
+
+    mine_is : mine ≡ records_at receives events n None
+    mine_is = own_is receives events n exists (nodes n exists) kept known
+
+    -- before n, or at n
+    earlier : (d : ℕ) → d < suc n → (d < n) ⊎ (d ≡ n)
+    earlier d less = elim (cases_order d n) [
+      | inl same ↦ inr same
+      | inr differ ↦ elim differ [ inl lt ↦ inl lt | inr gt ↦ absurd (omega arith) ]
+    ]
+
+    no_send_before : (m : ℕ) → ((d : ℕ) → d < suc n → ¬ Sends events d m) → (d : ℕ) → d < n → ¬ Sends events d m
+    no_send_before m none d before = none d (omega arith)
+
+    -- an event that sends nothing changes nothing of what was sent
+    sent_kept : ((m : ℕ) → ¬ Sends events n m) → (sent : List (ℕ × Claimed))
+        → ((m : ℕ) → IsSome (lookup (nat_eq m) messages.sent) → IsSome (lookup (nat_eq m) sent))
+        → (d m : ℕ) → d < suc n → Sends events d m → IsSome (lookup (nat_eq m) sent)
+    sent_kept sends_none sent same d m before sends = elim (earlier d before) [
+      | inl less ↦ same m (whole.sent d m less sends)
+      | inr at ↦ absurd (sends_none m (subst (λ x. Sends events x m) at sends))
+    ]
+
+    -- one that receives nothing adds none that waits
+    waits_kept : ((m : ℕ) → ¬ ReceivesMessage events n m) → (e m : ℕ) → e < suc n → ReceivesMessage events e m
+        → ((d : ℕ) → d < suc n → ¬ Sends events d m) → Contains (waiting_for messages.awaited m) (records_at receives events e None)
+    waits_kept receives_none e m before received none = elim (earlier e before) [
+      | inl less ↦ whole.waits e m less received (no_send_before m none)
+      | inr at ↦ absurd (receives_none m (subst (λ x. ReceivesMessage events x m) at received))
+    ]
+
+    nothing_more : ((m : ℕ) → ¬ Sends events n m) → ((m : ℕ) → ¬ ReceivesMessage events n m) → IsWhole (suc n) messages
+    nothing_more no_send no_receive = record {
+      keep_is = whole.keep_is;
+      few_sent = let few = whole.few_sent in omega arith;
+      few_waiting = let few = whole.few_waiting in omega arith;
+      sent = sent_kept no_send messages.sent (λ m some. some);
+      waits = waits_kept no_receive;
+    }
+
+    no_send_if : (kind : LogKind) → (event_at events n).kind ≡ kind → ((message : MessageId) → kind ≢ Send message) → (m : ℕ) → ¬ Sends events n m
+    no_send_if kind is other m sends = other (record { 0 = m }) (sym is ∙ sends.kind)
+
+    no_receive_if : (kind : LogKind) → (event_at events n).kind ≡ kind → ((message : MessageId) → kind ≢ Receive message) → (m : ℕ) → ¬ ReceivesMessage events n m
+    no_receive_if kind is other m received = other (record { 0 = m }) (sym is ∙ received.kind)
+
+    -- a send
+    module _ (message : MessageId) (is : (event_at events n).kind ≡ Send message) where
+      abbrev k : ℕ
+      k = message.0
+
+      abbrev put : List (ℕ × Claimed)
+      put = put_entries nat_eq (lru_cache messages.sent messages.keep) k (claimed_at events n)
+
+      sent_now : (d m : ℕ) → d < suc n → Sends events d m → IsSome (lookup (nat_eq m) put)
+      sent_now d m before sends = elim (cases_Bool (nat_eq m k)) [
+        | inl test ↦
+            some_of (lookup (nat_eq m) put) (claimed_at events n)
+            (ap (λ (x : ℕ). lookup (nat_eq x) put) (eqb-true m k test) ∙ lookup-put_entries nat_eq (lru_cache messages.sent messages.keep) k (claimed_at events n) nat_eq_equiv)
+        | inr test ↦ elim (earlier d before) [
+          | inl less ↦
+              let few = whole.few_sent in
+              let is_keep = whole.keep_is in
+              let there : length messages.sent < messages.keep = omega arith in
+              rw (lookup-put_others messages.keep k (claimed_at events n) messages.sent m (differ_by_test m k test) there) (whole.sent d m less sends)
+          | inr at ↦ absurd (differ_by_test m k test (same_sent (event_at events n).kind m message (subst (λ x. Sends events x m) at sends).kind is))
+        ]
+      ]
+
+      waits_now : (e m : ℕ) → e < suc n → ReceivesMessage events e m → ((d : ℕ) → d < suc n → ¬ Sends events d m)
+          → Contains (waiting_for (remove_entry (nat_eq k) messages.awaited) m) (records_at receives events e None)
+      waits_now e m before received none =
+          let differ : m ≢ k = λ same. none n (omega arith) (record { exists = exists; kind = is ∙ ap (λ (x : ℕ). Send (record { 0 = x })) (sym same) }) in
+          subst (λ ws. Contains ws (records_at receives events e None)) (sym (waiting_others messages.awaited m k differ))
+          (waits_kept (no_receive_if (Send message) is (λ x same. cc)) e m before received none)
+
+      whole_send : IsWhole (suc n) (after_kind messages mine (Send message))
+      whole_send = record {
+        keep_is = whole.keep_is;
+        few_sent = let few = whole.few_sent in let more = length-put messages.keep k (claimed_at events n) messages.sent in omega arith;
+        few_waiting = let few = whole.few_waiting in let less = count-remove k messages.awaited in omega arith;
+        sent = sent_now;
+        waits = waits_now;
+      }
+
+    -- a receive
+    module _ (message : MessageId) (is : (event_at events n).kind ≡ Receive message) where
+      abbrev r : ℕ
+      r = message.0
+
+      no_send : (m : ℕ) → ¬ Sends events n m
+      no_send = no_send_if (Receive message) is (λ x same. cc)
+
+      received_whole : (c : Claimed) → lookup (nat_eq r) messages.sent ≡ Some c → IsWhole (suc n) (received_from messages r mine (Some c))
+      received_whole c found = record {
+        keep_is = whole.keep_is;
+        few_sent = let few = whole.few_sent in let less = length-promoted r messages.sent in omega arith;
+        few_waiting = let few = whole.few_waiting in omega arith;
+        sent = sent_kept no_send (promoted (nat_eq r) messages.sent) (lookup-promoted r messages.sent);
+        waits = λ e m before received none. elim (earlier e before) [
+          | inl less ↦ whole.waits e m less received (no_send_before m none)
+          | inr at ↦
+              let entry = Contains-lookup (nat_eq r) messages.sent c found in
+              let (d, sent_before, sends, c_is) = known.sent (entry.0, c) entry.1 in
+              let key : entry.0 ≡ r = sym (eqb-true r entry.0 entry.2) in
+              let m_is : m ≡ r = same_received (event_at events n).kind m message (subst (λ x. ReceivesMessage events x m) at received).kind is in
+              absurd (none d (omega arith) (subst (λ x. Sends events d x) (key ∙ sym m_is) sends))
+        ];
+      }
+
+      more_waits : (e m : ℕ) → e < suc n → ReceivesMessage events e m → ((d : ℕ) → d < suc n → ¬ Sends events d m)
+          → Contains (waiting_for (with_receive messages.awaited r mine) m) (records_at receives events e None)
+      more_waits e m before received none = elim (cases_Bool (nat_eq m r)) [
+        | inr test ↦
+            let differ = differ_by_test m r test in
+            rw test (subst (λ ws. Contains ws (records_at receives events e None)) (sym (waiting_others messages.awaited m r differ)) (elim (earlier e before) [
+              | inl less ↦ whole.waits e m less received (no_send_before m none)
+              | inr at ↦ absurd (differ (same_received (event_at events n).kind m message (subst (λ x. ReceivesMessage events x m) at received).kind is))
+            ]))
+        | inl test ↦ rw test (elim (earlier e before) [
+          | inl less ↦
+              Contains-append_left (waiting_for messages.awaited r) (mine ∷ []) (records_at receives events e None)
+              (subst (λ x. Contains (waiting_for messages.awaited x) (records_at receives events e None)) (eqb-true m r test)
+              (whole.waits e m less received (no_send_before m none)))
+          | inr at ↦
+              subst (λ w. Contains (waiting_for messages.awaited r ++ mine ∷ []) w) (mine_is ∙ ap (λ (x : ℕ). records_at receives events x None) (sym at))
+              (Contains-push (waiting_for messages.awaited r) mine)
+        ])
+      ]
+
+      wait_whole : IsWhole (suc n) (received_from messages r mine None)
+      wait_whole =
+          let few = whole.few_waiting in
+          let is_keep = whole.keep_is in
+          let there : receive_count messages.awaited < messages.keep = omega arith in
+          let test = lt-ltb (receive_count messages.awaited) messages.keep there in
+          let latest : with_latest messages.keep messages.awaited r mine ≡ with_receive messages.awaited r mine =
+          ap (λ b. if b then with_receive messages.awaited r mine else without_last (with_receive messages.awaited r mine)) test in
+          record {
+            keep_is = whole.keep_is;
+            few_sent = let few = whole.few_sent in omega arith;
+            few_waiting = let more = ap (λ ws. receive_count ws) latest in let count = count-with_receive messages.awaited r mine in omega arith;
+            sent = sent_kept no_send messages.sent (λ m some. some);
+            waits = λ e m before received none.
+                subst (λ ws. Contains (waiting_for ws m) (records_at receives events e None)) (sym latest) (more_waits e m before received none);
+          }
+
+      whole_by : (o : Option Claimed) → lookup (nat_eq r) messages.sent ≡ o → IsWhole (suc n) (received_from messages r mine o)
+      whole_by None found = wait_whole
+      whole_by (Some c) found = received_whole c found
+
+    whole_by_kind : (kind : LogKind) → (event_at events n).kind ≡ kind → IsWhole (suc n) (after_kind messages mine kind)
+    whole_by_kind Local is = nothing_more (no_send_if Local is (λ x same. cc)) (no_receive_if Local is (λ x same. cc))
+    whole_by_kind Restart is = nothing_more (no_send_if Restart is (λ x same. cc)) (no_receive_if Restart is (λ x same. cc))
+    whole_by_kind Outside is = nothing_more (no_send_if Outside is (λ x same. cc)) (no_receive_if Outside is (λ x same. cc))
+    whole_by_kind (Send message) is = whole_send message is
+    whole_by_kind (Receive message) is = whole_by message is (lookup (nat_eq message.0) messages.sent) refl
+
+    whole_next : IsWhole (suc n) (after_event kept (ruled_at receives events n)).messages
+    whole_next = whole_by_kind (event_at events n).kind refl
+
+    -- what is told
+    abbrev Tells : LogKind → Records → Type 0
+    Tells kind records = Contains (if_any (event_told messages mine kind) ++ waited_told messages mine kind) records
+
+    told_now : (kind : LogKind) → ((message : MessageId) → kind ≢ Receive message) → Tells kind (records_at receives events n None)
+    told_now Local other = subst (λ w. Tells Local w) mine_is (Contains-head mine [])
+    told_now Restart other = subst (λ w. Tells Restart w) mine_is (Contains-head mine [])
+    told_now Outside other = subst (λ w. Tells Outside w) mine_is (Contains-head mine [])
+    told_now (Send message) other = subst (λ w. Tells (Send message) w) mine_is (Contains-head mine (waited_told messages mine (Send message)))
+    told_now (Receive message) other = absurd (other message refl)
+
+    tells_received : (m d : ℕ) → d < n → Sends events d m → (o : Option Claimed) → lookup (nat_eq m) messages.sent ≡ o → IsSome o
+        → Contains (if_any (records_with mine o) ++ []) (records_at receives events n (Some d))
+    tells_received m d before sends None found some = absurd cc
+    tells_received m d before sends (Some c) found some =
+        let entry = Contains-lookup (nat_eq m) messages.sent c found in
+        let (other, other_before, other_sends, c_is) = known.sent (entry.0, c) entry.1 in
+        let key : entry.0 ≡ m = sym (eqb-true m entry.0 entry.2) in
+        let same : other ≡ d = one_send events once other d m (subst (λ x. Sends events other x) key other_sends) sends in
+        let told : with_send c mine ≡ records_at receives events n (Some d) =
+        ap (with_send c) mine_is ∙ ap (λ (x : Claimed). with_send x (records_at receives events n None)) (c_is ∙ ap (claimed_at events) same) in
+        subst (λ w. Contains (with_send c mine ∷ []) w) told (Contains-head (with_send c mine) [])
+
+    told_received : (m d : ℕ) → d < n → Sends events d m → ReceivesMessage events n m
+        → Contains (told_as kept (ruled_at receives events n)) (records_at receives events n (Some d))
+    told_received m d before sends received =
+        subst (λ kind. Tells kind (records_at receives events n (Some d))) (sym received.kind)
+        (tells_received m d before sends (lookup (nat_eq m) messages.sent) refl (whole.sent d m before sends))
+
+    told_waited : (e m : ℕ) → e < n → Sends events n m → ReceivesMessage events e m
+        → Contains (told_as kept (ruled_at receives events n)) (records_at receives events e (Some n))
+    told_waited e m before sends received =
+        let none : (d : ℕ) → d < n → ¬ Sends events d m = λ d less other. (let same = one_send events once d n m other sends in omega arith) in
+        subst (λ kind. Tells kind (records_at receives events e (Some n))) (sym sends.kind)
+        (Contains-append_right (mine ∷ []) (waited_for messages m (claimed_at events n)) (records_at receives events e (Some n))
+        (mapped_there (with_send (claimed_at events n)) (waiting_for messages.awaited m) (records_at receives events e None) (whole.waits e m before received none)))
+
+  whole_after : (n : ℕ) → n ≤ length events → IsWhole n (kept_after receives keep events n).messages
+  whole_after zero within = none_whole
+  whole_after (suc n) within =
+      whole_next n (omega arith) (kept_after receives keep events n) (known_after receives events keep nodes n (omega arith)) (whole_after n (omega arith))
+
+  module _ (n : ℕ) (exists : n < length events) where
+    abbrev before_n : KeptLog
+    before_n = kept_after receives keep events n
+
+    known_n : IsKnown receives events n before_n
+    known_n = known_after receives events keep nodes n (omega arith)
+
+    whole_n : IsWhole n before_n.messages
+    whole_n = whole_after n (omega arith)
+
+  all_told : (e : ℕ) (send : Option ℕ) → e < length events → NamesSender events e send
+      → IsToldAt receives keep events (last_needed e send) (records_at receives events e send)
+  all_told e None exists names =
+      told_now e exists (before_n e exists) (known_n e exists) (whole_n e exists) (event_at events e).kind
+      (λ message is. names message.0 (record { exists = exists; kind = is }))
+  all_told e (Some d) exists (m, sends, received) = elim (cases_order d e) [
+    | inl same ↦
+        let both : Send (record { 0 = m }) ≡ Receive (record { 0 = m }) = sym sends.kind ∙ ap (λ (x : ℕ). (event_at events x).kind) same ∙ received.kind in
+        absurd cc
+    | inr differ ↦ elim differ [
+      | inl less ↦
+          let at : e ≡ max e d = omega arith in
+          subst (λ n. IsToldAt receives keep events n (records_at receives events e (Some d))) at
+          (told_received e exists (before_n e exists) (known_n e exists) (whole_n e exists) m d less sends received)
+      | inr more ↦
+          let at : d ≡ max e d = omega arith in
+          subst (λ n. IsToldAt receives keep events n (records_at receives events e (Some d))) at
+          (told_waited d sends.exists (before_n d sends.exists) (known_n d sends.exists) (whole_n d sends.exists) e m more sends received)
+    ]
+  ]
+
+pub tells_all : TellsAll
+tells_all receives keep events e send nodes once room exists names = all_told receives keep events nodes once room e send exists names

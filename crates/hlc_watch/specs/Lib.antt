@@ -1,0 +1,6 @@
+pub mod Coming
+pub mod Kept
+pub mod Laws
+pub mod Lists
+pub mod Records
+pub mod Watching

@@ -1,0 +1,83 @@
+-- Events as a clock rule reads them, the records that tell what an event breaks, and what they tell.
+use Rattle.std.specs.Prelude.{ℕ, Bool, Option, Some, None, ◌==◌, if◌then◌else◌, option_map}
+use Rattle.hlc_stamp.specs.Order.{Pair}
+use Rattle.hlc_causality.specs.declared.receives.Receives.{Receives}
+use Rattle.hlc_causality.specs.ClockEvents.{ClockEvent}
+use Rattle.hlc_causality.specs.ReceiveEvents.{event_by}
+use Rattle.hlc_causes.specs.declared.local.LocalCauses.{LocalCauses}
+use Rattle.hlc_causes.specs.declared.local.LocalEvent.{LocalEvent}
+use Rattle.hlc_causes.specs.Local.{local_causes}
+use Rattle.hlc_log.specs.declared.log_event.LogEvent.{LogEvent}
+use Rattle.hlc_log.specs.declared.log_event.LogKind.{LogKind}
+use Rattle.hlc_log.specs.declared.log_event.LogKind.TheVariants.{Receive}
+use Rattle.hlc_log.specs.Events.{own_rule}
+use Rattle.hlc_watch.specs.declared.records.Claimed.{Claimed}
+use Rattle.hlc_watch.specs.declared.records.LineCauses.{LineCauses}
+use Rattle.hlc_watch.specs.declared.records.Records.{Records}
+use Rattle.hlc_watch.specs.declared.ruled_event.RuledEvent.{RuledEvent}
+
+-- that it receives something, by the number of the message
+abbrev pub received : LogKind → Option ℕ
+received (Receive message) = Some message.0
+received _ = None
+
+-- an event among clocks that do this at receives: it has a rule of its own, or that of such clocks
+abbrev pub clock_event_by : Receives → LogEvent → ClockEvent
+clock_event_by receives event =
+    event_by receives (own_rule receives event) (record { node = event.node.0; reading = event.reading; send = received event.kind })
+
+-- the same, with what the log tells of it beside
+abbrev pub ruled_by : Receives → LogEvent → RuledEvent
+ruled_by receives event =
+    let x = clock_event_by receives event in
+    record {
+      node = event.node;
+      line = event.line;
+      rule = record { floor = x.floor; ticks = x.ticks };
+      kind = event.kind;
+      stamp = event.stamp;
+      carried = event.carried;
+    }
+
+-- what the line of an event claims
+abbrev pub claimed_by : RuledEvent → Claimed
+claimed_by event = record { line = event.line; stamp = event.stamp }
+
+-- records with that of the send
+abbrev pub with_send : Claimed → Records → Records
+with_send send records = record records { send = Some send }
+
+-- a claimed stamp as an event saw it that receives from this line what carried this stamp
+abbrev pub seen_by : (send : Option Claimed) → (carried : Option Pair) → Claimed → Pair
+seen_by (Some send) (Some p) claimed = if send.line == claimed.line then p else claimed.stamp
+seen_by _ _ claimed = claimed.stamp
+
+-- the same, of records
+abbrev pub seen_stamp : Records → Claimed → Pair
+seen_stamp records claimed = seen_by records.send records.event.carried claimed
+
+-- what the clock rule looks at
+abbrev pub local_event_of : Records → LocalEvent
+local_event_of records = record {
+  rule = records.event.rule;
+  stamp = records.event.stamp;
+  previous = option_map (seen_stamp records) records.previous;
+  send = option_map (seen_stamp records) records.send;
+}
+
+-- the line of a record, if a rule is broken by its stamp
+abbrev pub line_if : Bool → Option Claimed → Option ℕ
+line_if broken claimed = if broken then option_map (λ c. c.line) claimed else None
+
+-- what local causes are by lines
+abbrev pub lined : (previous send : Option Claimed) → LocalCauses → LineCauses
+lined previous send causes = record {
+  behind = causes.behind;
+  not_above_previous = line_if causes.not_above_previous previous;
+  not_above_send = line_if causes.not_above_send send;
+  ahead = causes.ahead;
+}
+
+-- the rules that records tell to be broken
+abbrev pub line_causes : (full : ℕ) → Records → LineCauses
+line_causes full records = lined records.previous records.send (local_causes full (local_event_of records))

@@ -1,0 +1,55 @@
+ghost use Rattle.std.specs.Prelude.{◌≡◌};
+ghost use Rattle.hlc_log.specs.Events.{IsSmallCarried};
+ghost use Rattle.hlc_watch.specs.Records.{ruled_by};
+
+use hlc_causality::{EventRule, Receives};
+use hlc_log::{LogEvent, LogKind};
+use hlc_stamp::{NodeId, Stamp};
+
+/// An event of a log, as a clock rule reads it.
+#[derive(Clone, Copy)]
+pub struct RuledEvent {
+    /// Where it happened.
+    pub node: NodeId,
+    /// The line of the log that tells of it.
+    pub line: u32,
+    /// What the clock rule asks of it.
+    pub rule: EventRule,
+    /// What happened.
+    pub kind: LogKind,
+    /// The stamp that the log claims for it.
+    pub stamp: Stamp,
+    /// Of a receive, the stamp that its message carried, if the log tells that.
+    pub carried: Option<Stamp>,
+}
+
+impl RuledEvent {
+    /// An event of a log whose clocks do this at receives. It has a rule of its own, or that of such clocks.
+    pub fn new(receives: Receives, event: &LogEvent) -> RuledEvent
+        requires { IsSmallCarried event.now.carried }
+        ensures { result ≡ ruled_by receives event.now }
+    {
+        RuledEvent {
+            node: event.node,
+            line: event.line,
+            rule: rule_of(receives, event),
+            kind: event.kind,
+            stamp: event.stamp,
+            carried: event.carried,
+        }
+    }
+}
+
+// What the clock rule asks of an event.
+fn rule_of(receives: Receives, event: &LogEvent) -> EventRule
+    requires { IsSmallCarried event.now.carried }
+    ensures { result ≡ (ruled_by receives event.now).rule }
+{
+    match event.own_rule(receives) {
+        Some(rule) => rule,
+        None => {
+            let is_receive = matches!(event.kind, LogKind::Receive(_));
+            receives.rule(is_receive, event.reading)
+        }
+    }
+}

@@ -1,0 +1,114 @@
+// The same as command lines, as a link, and as files.
+const MOST_LINK = 200000, MOST_TYPED = 2000;
+
+const quoted = text => `'${text.replaceAll("'", "'\\''")}'`;
+
+// The words that say which part is drawn, as the program takes them.
+function viewWords(it) {
+  const shown = name => (/^[\w.:/-]+$/.test(eventName(it[name])) ? eventName(it[name]) : quoted(eventName(it[name])));
+  const word = (name, value) => (it[name] === '' ? '' : ` --${name} ${value}`);
+  if (it.only) return `${word('explain', shown('explain'))} --only-chain`;
+  const part = it.around === '' ? ['from', 'to'].map(name => (it[name] === '' ? '' : word(name, shown(name)))).join('')
+    : it.kind === 'log' ? word('around', shown('around')) : ` --from ${Math.max(0, it.around - 19)} --to ${Number(it.around) + 20}`;
+  return (it.explain === '' ? '' : word('explain', shown('explain'))) + part;
+}
+
+function commandLines(it) {
+  if (it.kind === 'trace') return ['hlc judge'];
+  const option = name => (it[name] === '' ? '' : ` --${name} ${it[name]}`);
+  if (it.kind === 'log') {
+    const reading = (it.form === 33 ? ' --dotted' : it.form ? ` --packed ${it.form}` : '') + option('tolerance') + (it.receives === 'tick' ? '' : option('receives')) + (it.unsent ? ' --unsent local' : '');
+    return [`hlc audit${reading}${option('limit')}${told.status === BROKEN ? ' --strict' : ''}${it.report ? ' --report' : ''}`, `hlc draw-log${reading}${viewWords(it)}`];
+  }
+  const settings = ` --nodes ${it.nodes} --capacity ${it.capacity}${option('limit')}`;
+  return [`hlc run${settings}`, `hlc draw${settings}${viewWords(it)}`];
+}
+
+// Whether the text is that of its files, one after another, as `tail` puts them.
+const isOfFiles = () => !isChanged && filesNow().length > 1 && filesNow().every(file => !/[",]/.test(file.name));
+
+function commandText(it) {
+  const { bytes } = now(), lines = commandLines(it), names = filesNow().map(file => quoted(file.name));
+  if (isOfFiles()) return lines.map(line => `tail -n +1 ${names.join(' ')} | ${line}\n`).join('');
+  if (kept || (ownName && !isChanged) || bytes.length > MOST_TYPED) return lines.map(line => `${line} < ${quoted(fileName())}\n`).join('');
+  return `printf %s ${quoted(decode(bytes))} > ${KINDS[it.kind].text}\n${lines.map(line => `${line} < ${KINDS[it.kind].text}\n`).join('')}`;
+}
+
+const showLine = it => { at('line').textContent = commandText(it); };
+
+// The options as the fragment of an address, and an example by its name.
+function fragmentOf(it) {
+  const parts = new URLSearchParams({ kind: it.kind });
+  for (const name of ['nodes', 'capacity', 'limit', 'tolerance']) if (it[name] !== undefined && it[name] !== '') parts.set(name, it[name]);
+  for (const name of VIEW) if (it[name] !== undefined && it[name] !== '') parts.set(name, eventName(it[name]));
+  if (it.only) parts.set('only', '1');
+  if (it.kind === 'log') {
+    parts.set('stamps', at('stamps').value);
+    if (it.form && it.form !== 33) parts.set('bits', it.form);
+    if (it.receives !== 'tick') parts.set('receives', it.receives);
+    for (const name of ['unsent', 'report']) if (it[name]) parts.set(name, '1');
+  }
+  return parts;
+}
+
+let ownFragment = '';
+
+// Keeps the options in the address, and never the text: a link with the text has to be asked for.
+function keepInAddress(it) {
+  const parts = fragmentOf(it);
+  if (exampleName) parts.set('example', exampleName);
+  ownFragment = `#${parts}`;
+  try {
+    history.replaceState(null, '', ownFragment);
+  } catch {
+    location.replace(ownFragment);
+  }
+}
+
+// Takes a case from the address.
+function takeFromAddress() {
+  if (location.hash === ownFragment || !location.hash.includes('=')) return false;
+  const parts = new URLSearchParams(location.hash.slice(1));
+  if (!Object.hasOwn(KINDS, parts.get('kind'))) {
+    if (parts.has('kind')) say(`The address asks for a text of the kind ${parts.get('kind').slice(0, 40)}, which there isn't: there are script, trace and log.`);
+    return false;
+  }
+  const example = examples.find(it => it.name === parts.get('example'));
+  const text = parts.get('text') ?? example?.text ?? '';
+  replaceText(encode(text));
+  at('kind').value = parts.get('kind');
+  const given = Object.fromEntries([...parts].filter(([name]) => Object.hasOwn(DEFAULTS, name)));
+  if (!['pair', 'packed', 'dotted'].includes(given.stamps)) delete given.stamps;
+  if (!['merge', 'merge-clock'].includes(given.receives)) delete given.receives;
+  setOptions(given);
+  if (!parts.has('text') && example) exampleName = example.name;
+  if (text) answer();
+  else say('The address has options and no text: paste one, or open files.');
+  return true;
+}
+
+async function copy(text, what) {
+  const copied = said => { at('copied').textContent = said; announce(said); };
+  try {
+    await navigator.clipboard.writeText(text);
+    copied(`${what} was copied.`);
+  } catch {
+    at('line').textContent = text;
+    getSelection().selectAllChildren(at('line'));
+    copied(`${what} stands below, selected: copy it from there.`);
+  }
+}
+
+// The address with the text in it.
+function linkOf(it) {
+  const parts = fragmentOf(it);
+  parts.set('text', decode(now().bytes));
+  return `${location.href.replace(/#.*/s, '')}#${parts}`;
+}
+
+function copyLink() {
+  const it = optionsOrSay();
+  if (!it) return;
+  if (kept || now().bytes.length > MOST_LINK) at('copied').textContent = 'The text is too long for a link, or no UTF-8: save it, and send the file.';
+  else copy(linkOf(it), 'The link, with the whole text in it,');
+}

@@ -1,0 +1,86 @@
+// The beginning: what the controls do, and the module.
+const NEWEST = 'It takes memories of 64 bits (memory64): Chrome, Edge and Chromium have them from version 133 on, Firefox from 134 on.';
+
+function listen() {
+  for (const [place, it] of examples.entries()) at('example').append(element('option', it.name, { value: String(place) }));
+  at('example').addEventListener('change', () => { if (at('example').value !== '') showExample(examples[Number(at('example').value)]); });
+  at('kind').addEventListener('change', () => {
+    for (const name of VIEW) at(name).value = '';
+    showOptions();
+    forget();
+  });
+  at('stamps').addEventListener('change', showOptions);
+  for (const [id, act] of [['answer', () => answer()], ['stop', stop], ['storm', writeStorm], ['draw', redraw], ['find', find], ['undo', undo]]) at(id).addEventListener('click', act);
+  for (const id of ['search', ...VIEW, 'nodes', 'capacity', 'limit', 'tolerance', 'bits'])
+    at(id).addEventListener('keydown', event => { if (event.key === 'Enter') (id === 'search' ? find : VIEW.includes(id) ? redraw : answer)(); });
+  // (rows about an event stand in the place of those from one to another)
+  at('around').addEventListener('input', () => { at('from').value = at('to').value = ''; });
+  for (const id of ['from', 'to']) at(id).addEventListener('input', () => { at('around').value = ''; });
+  at('only').addEventListener('change', redraw);
+  listenToFiles();
+  at('save-svg').addEventListener('click', () => save(KINDS[kind()].picture, [svgText], 'image/svg+xml'));
+  at('save-answers').addEventListener('click', () => save('answers.csv', [told.answers ?? '']));
+  at('save-text').addEventListener('click', () => save(fileName(), [now().bytes]));
+  at('copy-line').addEventListener('click', () => { const it = optionsOrSay(); if (it) { showLine(it); copy(commandText(it), 'The command line'); } });
+  at('copy-link').addEventListener('click', copyLink);
+  listenToText();
+  listenToPicture();
+  addEventListener('hashchange', takeFromAddress);
+  addEventListener('resize', render);
+}
+
+function listenToFiles() {
+  for (const [id, after] of [['file', false], ['more-files', true]]) at(id).addEventListener('change', async () => {
+    const given = [...at(id).files];
+    if (given.length) await take(given, after);
+    at(id).value = '';
+  });
+  const main = at('main');
+  for (const name of ['dragenter', 'dragover']) document.addEventListener(name, event => { event.preventDefault(); main.classList.add('dropping'); });
+  document.addEventListener('dragleave', event => { if (!event.relatedTarget) main.classList.remove('dropping'); });
+  document.addEventListener('drop', event => {
+    event.preventDefault();
+    main.classList.remove('dropping');
+    const given = [...event.dataTransfer.files];
+    // (files that are there are added to)
+    if (given.length) take(given, filesNow().length > 0);
+  });
+}
+
+// A module of nothing but a memory of 64 bits.
+const hasMemory64 = () => typeof WebAssembly === 'object' && WebAssembly.validate(Uint8Array.of(0, 97, 115, 109, 1, 0, 0, 0, 5, 3, 1, 4, 0));
+
+async function compiled() {
+  const packed = Uint8Array.from(atob(at('module').textContent), letter => letter.charCodeAt(0));
+  const bytes = await new Response(new Blob([packed]).stream().pipeThrough(new DecompressionStream('gzip'))).arrayBuffer();
+  return WebAssembly.compile(bytes);
+}
+
+function trouble(text) {
+  at('trouble').hidden = false;
+  at('trouble').textContent = text;
+  for (const id of ['answer', 'storm', 'draw', 'find']) at(id).disabled = true;
+}
+
+async function begin() {
+  listen();
+  setOptions({});
+  showHere();
+  if (!hasMemory64()) return trouble(`This browser can't run the module of this page. ${NEWEST}`);
+  try {
+    module = await compiled();
+    await startWorker();
+  } catch (fault) {
+    return trouble(`The module of this page can't be loaded here: ${fault.message}. ${NEWEST}`);
+  }
+  // For other scripts and the console: the status and the bytes that a command answers.
+  window.hlc = { ask: (command, bytes, it) => send(command, { ...it, bytes }) };
+  document.documentElement.dataset.ready = 'yes';
+  const asked = location.hash;
+  if (takeFromAddress()) return;
+  const said = /[#&]kind=/.test(asked) ? at('said').textContent : '';
+  await showExample(examples[0]);
+  if (said) say(`${said}\n${at('said').textContent}`);
+}
+
+begin();

@@ -1,0 +1,72 @@
+// What the page asks for: it holds the text, answers it, draws it, and asks after it.
+let text = new Uint8Array(0);
+
+// What answers a text of each kind, what it is called meanwhile, with which statuses it answers, and what draws such a text.
+const KINDS = {
+  script: { answer: commands.run, stage: 'answering', done: [OK], draw: commands.draw },
+  trace: { answer: commands.judge, stage: 'judging', done: [OK] },
+  log: { answer: commands.audit, stage: 'auditing', done: [OK, BROKEN, OVER_LIMIT], draw: commands['draw-log'] },
+};
+
+// A text and a question after it, on a line of its own.
+function withTail(tail) {
+  const ended = !text.length || text[text.length - 1] === 10;
+  const more = new TextEncoder().encode((ended ? '' : '\n') + tail.join('\n') + '\n');
+  const all = new Uint8Array(text.length + more.length);
+  all.set(text);
+  all.set(more, text.length);
+  return all;
+}
+
+// The answers to questions that are asked after a script or a log: the last rows.
+function ask(it) {
+  const { answer, done } = KINDS[it.kind];
+  const { status, bytes } = answer(withTail(it.questions), it);
+  const groups = groupsBy(it.kind, bytes, recordsOf(bytes)), count = groups.length - 1;
+  const last = it.questions.map((_, place) => fieldsOf(bytes.subarray(groups[count - it.questions.length + place], groups[count - it.questions.length + place + 1] - 1)));
+  return { status, rows: done.includes(status) && count >= it.questions.length ? last : [] };
+}
+
+const hasDot = (picture, event) => decode(picture).includes(` id="e${event}"`);
+
+// The picture of a text: if it doesn't say which events are to be drawn, those about the one to explain, where that isn't among the first.
+function drawn(bytes, it) {
+  const { draw } = KINDS[it.kind], picture = draw(bytes, it);
+  const isAsked = it.only || [it.from, it.to, it.around].some(isGiven);
+  if (isAsked || picture.status !== OK || !isGiven(it.explain) || hasDot(picture.bytes, it.explain)) return picture;
+  return { ...draw(bytes, { ...it, around: it.explain }), around: Number(it.explain) };
+}
+
+// All that the page shows of a text of one kind, stage by stage.
+function work(it, stage) {
+  const bytes = it.bytes ?? text;
+  stage('finding the records');
+  const records = recordsOf(bytes);
+  const kind = KINDS[it.kind];
+  stage(kind.stage);
+  const { status, bytes: answers } = kind.answer(bytes, it);
+  stage('finding the answers');
+  const groups = groupsBy(it.kind, answers, recordsOf(answers));
+  const told = { status, answers, groups, lines: records.lines, ...eventsOf(answers, groups, records.lines), questions: it.kind === 'log' ? questionsOf(bytes, records) : [] };
+  if (!kind.draw || !kind.done.includes(status)) return told;
+  stage('drawing');
+  const picture = drawn(bytes, it);
+  return { ...told, drawn: picture.status, picture: decode(picture.bytes), around: picture.around };
+}
+
+onmessage = async ({ data: { id, kind, it } }) => {
+  try {
+    const stage = name => postMessage({ id, stage: name });
+    let told = {};
+    if (kind === 'module') exports = (await WebAssembly.instantiate(it, {})).exports;
+    else if (kind === 'text') text = it;
+    else if (kind === 'work') told = work(it, stage);
+    else if (kind === 'search') told = search(it);
+    else if (kind === 'ask') told = ask(it);
+    else if (kind === 'picture') told = drawn(text, it);
+    else told = commands[kind](it.bytes ?? text, it);
+    postMessage({ id, told });
+  } catch (fault) {
+    postMessage({ id, fault: isRefusal(fault) ? 'out of memory' : String(fault) });
+  }
+};
