@@ -27,7 +27,7 @@ def try_cases(page, program, count):
         bad = 0
         for seed, ((words, _, text), (status, answer)) in enumerate(zip(given, told, strict=True)):
             out, code, said = asked(program, words, text)
-            if command == "draw" and code == 0 and NOTE.fullmatch(said) or command == "audit" and said == NO_EVENTS:
+            if command in ("draw", "trace") and code == 0 and NOTE.fullmatch(said) or command == "audit" and said == NO_EVENTS:
                 code, said = 0, ""
             ran = out, code, "" if code == 2 else said
             if (answer, *STATUS.get(status, (None, None))) != ran:

@@ -116,6 +116,11 @@ def draw_case(rng):
     return ["draw", *words], options, script(rng)
 
 
+def trace_case(rng):
+    (words, options), vector = settings(rng), rng.random() < 0.5
+    return ["trace", *words, *(["--vector"] if vector else [])], {**options, "vector": vector}, script(rng)
+
+
 def judge_case(rng):
     return ["judge"], {}, trace(rng)
 
@@ -136,6 +141,11 @@ def audit_case(rng):
     return words, {**options, "limit": "" if limit is None else str(limit), "report": report}, log(rng, options["form"])
 
 
+def vectors_case(rng):
+    words, options = reading(rng)
+    return ["vectors", *words], options, log(rng, options["form"])
+
+
 def draw_log_case(rng):
     if rng.random() < 0.4:
         (words, options), (more, part) = reading(rng), around(rng)
@@ -150,7 +160,7 @@ def storm_case(rng):
     return ["storm", "--nodes", str(nodes), "--steps", str(steps), "--seed", str(seed)], {"nodes": nodes, "steps": steps, "seed": str(seed)}, b""
 
 
-CASES = {"run": run_case, "draw": draw_case, "judge": judge_case, "audit": audit_case, "draw-log": draw_log_case, "storm": storm_case}
+CASES = {"run": run_case, "draw": draw_case, "trace": trace_case, "judge": judge_case, "audit": audit_case, "draw-log": draw_log_case, "vectors": vectors_case, "storm": storm_case}
 
 
 def cases(command, count):

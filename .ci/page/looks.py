@@ -38,6 +38,53 @@ def try_names(page, program):
         hold(f"links are named {links[:5]}", all(" " in name for name in links))
 
 
+# Texts whose letters stand out too little from their ground, by the ratio of WCAG 2: 4.5 to 1, and 3 to 1 for large ones.
+FAINT = """(() => {
+    const colour = text => { const [, space, parts] = /^(rgba?|color)\\((?:srgb )?([^)]*)\\)/.exec(text); const [r, g, b, a = '1'] = parts.split(/[\\s,/]+/); return [...[r, g, b].map(part => Number(part) / (space === 'color' ? 1 : 255)), Number(a)]; };
+    const over = ([r, g, b, a], ground) => [r, g, b].map((part, place) => part * a + ground[place] * (1 - a));
+    const groundOf = it => { if (!it) return over(colour(getComputedStyle(document.documentElement).colorScheme && matchMedia('(prefers-color-scheme: dark)').matches ? 'rgb(0,0,0)' : 'rgb(255,255,255)'), [1, 1, 1]); return over(colour(getComputedStyle(it).backgroundColor), groundOf(it.parentElement)); };
+    const light = parts => { const [r, g, b] = parts.map(part => (part <= 0.04045 ? part / 12.92 : ((part + 0.055) / 1.055) ** 2.4)); return 0.2126 * r + 0.7152 * g + 0.0722 * b; };
+    const found = [];
+    const texts = document.createTreeWalker(document.body, NodeFilter.SHOW_TEXT);
+    for (let text = texts.nextNode(); text; text = texts.nextNode()) {
+        const it = text.parentElement, style = getComputedStyle(it), size = parseFloat(style.fontSize);
+        if (!text.data.trim() || !it.checkVisibility() || it.closest('svg, script, noscript, option, :disabled')) continue;
+        const ground = groundOf(it), one = light(over(colour(style.color), ground)), other = light(ground);
+        const ratio = (Math.max(one, other) + 0.05) / (Math.min(one, other) + 0.05);
+        if (ratio < (size >= 24 || (size >= 18.6 && style.fontWeight >= 700) ? 3 : 4.5)) found.push(`${ratio.toFixed(1)} ${it.tagName} ${it.id} ${text.data.trim().slice(0, 30)}`);
+    }
+    return found; })()"""
+
+# What the Tab key comes to and has no name, or a place of its own in the order.
+UNNAMED = """[...document.querySelectorAll('a[href], button, input, select, textarea, summary, [tabindex]')].filter(it => it.checkVisibility() && it.tabIndex >= 0 && (it.tabIndex > 0
+    || !(it.getAttribute('aria-label') || it.getAttribute('aria-labelledby') || it.labels?.[0]?.textContent.trim() || it.textContent.trim()))).map(it => `${it.tagName} ${it.id}`)"""
+
+
+def try_contrast(page, program):
+    """Texts stand out from their ground, light and dark, and what can be reached has a name, with all that can be opened open."""
+    for scheme in ["light", "dark"]:
+        page.browser.call("Emulation.setEmulatedMedia", features=[{"name": "prefers-color-scheme", "value": scheme}])
+        page.open()
+        page.ask("for (const part of document.querySelectorAll('details')) part.open = true")
+        page.fill(**{"other-limit": "500"})
+        page.ask("document.getElementById('beside-limit').click()")
+        page.wait("document.getElementById('compared').textContent !== ''")
+        hold(f"{scheme}, a script: faint are {page.ask(FAINT)}", not page.ask(FAINT))
+        hold(f"a script: without names are {page.ask(UNNAMED)}", not page.ask(UNNAMED))
+        page.ask("document.getElementById('play').click()")
+        page.wait("document.getElementById('step-count').textContent !== ''")
+        hold(f"{scheme}, a step: faint are {page.ask(FAINT)}", not page.ask(FAINT))
+        size = page.ask("parseFloat(getComputedStyle(document.getElementById('step-said')).fontSize)")
+        page.key("Escape", 27)
+        page.example("A log with broken stamps")
+        page.ask("document.getElementById('search').value = 'n2'; document.getElementById('find').click()")
+        page.wait("document.getElementById('found').textContent !== ''")
+        hold(f"{scheme}, a log: faint are {page.ask(FAINT)}", not page.ask(FAINT))
+        hold(f"a log: without names are {page.ask(UNNAMED)}", not page.ask(UNNAMED))
+    page.browser.call("Emulation.setEmulatedMedia", features=[])
+    hold(f"a step is told in letters of {size} pixels", size >= 18)
+
+
 def try_old_engine(browser, page):
     """An engine without memories of 64 bits."""
     number = browser.call("Page.addScriptToEvaluateOnNewDocument", source="WebAssembly.validate = () => false")["identifier"]
@@ -112,4 +159,4 @@ def try_little_memory(path):
         hold(f"after that it says {page.text('said')}", "hlc" not in page.text("said"))
 
 
-CHECKS = [try_names, try_room, try_fingers, try_arrows]
+CHECKS = [try_names, try_room, try_fingers, try_arrows, try_contrast]

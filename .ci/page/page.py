@@ -118,10 +118,10 @@ class Page:
         for kind in ["mousePressed", "mouseReleased"]:
             self.browser.call("Input.dispatchMouseEvent", type=kind, x=x, y=y, button="left", clickCount=1)
 
-    def key(self, name, code, ctrl=False):
+    def key(self, name, code, ctrl=False, shift=False):
         for kind in ["keyDown", "keyUp"]:
             text = "\r" if name == "Enter" and kind == "keyDown" else ""
-            self.browser.call("Input.dispatchKeyEvent", type=kind, key=name, code=name, windowsVirtualKeyCode=code, text=text, modifiers=2 if ctrl else 0)
+            self.browser.call("Input.dispatchKeyEvent", type=kind, key=name, code=name, windowsVirtualKeyCode=code, text=text, modifiers=(2 if ctrl else 0) + (8 if shift else 0))
 
     def touch(self, *steps):
         """Fingers that are put on the page, moved and taken away: at each step their places."""

@@ -1,7 +1,8 @@
 -- What a clock that is called from C answers.
-use Rattle.std.specs.Prelude.{◌≡◌, ℕ, ◌+◌, ◌-◌, ◌^◌, ◌<◌, ◌≤◌, max}
+use Rattle.std.specs.Prelude.{◌≡◌, ◌⊎◌, ℕ, ◌+◌, ◌-◌, ◌^◌, ◌<◌, ◌≤◌, max}
 use Rattle.hlc_stamp.specs.Order.{IsAtMost, IsBelow, Pair}
 use Rattle.hlc_stamp.specs.declared.limits.TheConstants.{MAX_READING}
+use Rattle.hlc_c.specs.Stamp.{pair_of}
 use Rattle.hlc_c.specs.declared.stamp.CStamp.{CStamp}
 
 -- a clock may read this
@@ -52,6 +53,11 @@ pub record IsObserved (old message new : Pair) : Type 0 where
   pub not_below_old : IsAtMost old new
   pub not_below_message : IsAtMost message new
   pub least : (p : Pair) → IsAtMost old p → IsAtMost message p → IsAtMost new p
+
+-- the greater of two stamps
+abbrev pub IsLater : (first second result : CStamp) → Type 0
+IsLater first second result =
+    IsBelow (pair_of first) (pair_of second) × (result ≡ second) ⊎ ¬ IsBelow (pair_of first) (pair_of second) × (result ≡ first)
 
 -- a tick of a clock that has seen a message is the merge of the message
 abbrev pub TicksAfterMessagesAreMerges : Type 0

@@ -1,11 +1,11 @@
 ghost use Rattle.std.specs.Prelude.{◌≡◌, ◌↔◌, IsTrue};
 ghost use Rattle.hlc_stamp.specs.Order.{IsBelow};
-ghost use Rattle.hlc_c.specs.Clock.{CanCountAt, CanMerge, CanTick, IsMerge, IsMergeTooFar, IsObserved, IsReading, IsTick, IsTickTooFar, IsTooFar};
+ghost use Rattle.hlc_c.specs.Clock.{CanCountAt, CanMerge, CanTick, IsLater, IsMerge, IsMergeTooFar, IsObserved, IsReading, IsTick, IsTickTooFar, IsTooFar};
 ghost use Rattle.hlc_c.specs.Stamp.{pair_of};
 
 use crate::stamp::CStamp;
 use crate::status::{HLC_MESSAGE_TOO_FAR, HLC_NO_ROOM, HLC_OK, HLC_READING, HLC_TOO_FAR};
-use hlc_stamp::{MAX_READING, Stamp, merge, tick};
+use hlc_stamp::{MAX_READING, Stamp, tick};
 
 /// The clock's next event, a send or a local one: its stamp becomes the clock's.
 ///
@@ -59,15 +59,12 @@ pub extern "C" fn hlc_merge(clock: &mut CStamp, message: CStamp, reading: u64) -
     ensures least { result ≡ HLC_OK → IsMerge (pair_of clock.old) (pair_of message) reading (pair_of clock.new) }
     ensures unchanged { ¬ (result ≡ HLC_OK) → clock.new ≡ clock.old }
 {
-    if !is_reading(reading) {
-        return HLC_READING;
+    let mut seen = later(*clock, message);
+    let status = hlc_tick(&mut seen, reading);
+    if status == HLC_OK {
+        *clock = seen;
     }
-    let l = clock.l.max(message.l).max(reading);
-    if !can_count_at(*clock, l) || !can_count_at(message, l) {
-        return HLC_NO_ROOM;
-    }
-    *clock = merge(Stamp::from(*clock), Stamp::from(message), reading).into();
-    HLC_OK
+    status
 }
 
 /// `hlc_merge`, unless the clock or the message is ahead of the reading by more than the limit.
@@ -111,9 +108,7 @@ pub extern "C" fn hlc_observe(clock: &mut CStamp, message: CStamp, reading: u64,
     if is_too_far(message.l, reading, limit) {
         return HLC_MESSAGE_TOO_FAR;
     }
-    if hlc_is_below(*clock, message) {
-        *clock = message;
-    }
+    *clock = later(*clock, message);
     HLC_OK
 }
 
@@ -123,6 +118,17 @@ pub extern "C" fn hlc_is_below(first: CStamp, second: CStamp) -> bool
     ensures { IsTrue result ↔ IsBelow (pair_of first) (pair_of second) }
 {
     Stamp::from(first).is_below(second.into())
+}
+
+// The greater of two stamps.
+fn later(first: CStamp, second: CStamp) -> CStamp
+    ensures { IsLater first second result }
+{
+    if hlc_is_below(first, second) {
+        second
+    } else {
+        first
+    }
 }
 
 // Whether a clock may read this.

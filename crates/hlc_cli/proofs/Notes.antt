@@ -48,6 +48,7 @@ has_status (stop.Line line.Range) zero = omega arith
 has_status (stop.Line line.Forms) zero = omega arith
 has_status (stop.Line line.Unsent) zero = omega arith
 has_status (stop.Line line.Receives) zero = omega arith
+has_status (stop.Line line.Output) zero = omega arith
 has_status (stop.Line line.Question) zero = omega arith
 has_status (stop.Line (line.Sign option)) zero = omega arith
 has_status (stop.Line (line.Part m)) zero = omega arith

@@ -28,6 +28,7 @@ use Rattle.hlc_log_commands.specs.LogVectors.{HasVectors}
 use Rattle.hlc_log_commands.specs.Records.{records_in}
 use Rattle.hlc_log_commands.specs.Unopened.{IsUnopened}
 use Rattle.hlc_threads_command.specs.Played.{IsPlayed}
+use Rattle.hlc_watch_command.specs.Watched.{IsWatchNote, IsWatchPassed, IsWatchedBut}
 use Rattle.hlc_cli.specs.declared.fault.Fault.{Fault}
 use Rattle.hlc_cli.specs.declared.fault.Fault.TheVariants as stop
 
@@ -52,6 +53,7 @@ IsDone input before after (order.Draw settings (history.Chain event)) = IsChainD
 IsDone input before after (order.Trace settings vector) = IsScriptTraced settings vector input before after
 IsDone input before after order.Judge = IsJudged MAX_RECORDS input before after
 IsDone input before after (order.Audit options asked json) = IsAuditPassed options asked.items (records_in json input) before after
+IsDone input before after (order.Watch options json) = IsWatchPassed options (records_in json input) before after
 IsDone input before after (order.DrawLog options json) = IsLogDrawnWhole options (records_in json input) before after
 IsDone input before after (order.Vectors records json) = HasVectors records (records_in json input) before after
 IsDone input before after (order.Storm nodes steps seed) = Appends before after (printed_text (storm_of seed nodes steps))
@@ -63,16 +65,18 @@ IsDoneBut fault input before after (order.Draw settings (history.Events explaine
     IsDrawnBut fault settings explained from to input before after
 IsDoneBut fault input before after (order.Draw settings (history.Chain event)) = IsChainDrawnBut fault settings event input before after
 IsDoneBut fault input before after (order.Audit options asked json) = IsAuditedBut fault options asked.items (records_in json input) before after
+IsDoneBut fault input before after (order.Watch options json) = IsWatchedBut fault options (records_in json input) before after
 IsDoneBut fault input before after (order.DrawLog options json) = IsLogDrawnBut fault options (records_in json input) before after
 IsDoneBut fault input before after (order.Vectors records json) = IsUnopened MAX_CAPACITY fault records (records_in json input) before after
 IsDoneBut fault input before after _ = ⊥
 
--- this is the note on an order that was done: the one on the script that was drawn or traced, or on the log that was audited, and none on what another
--- order asks for
+-- this is the note on an order that was done: the one on the script that was drawn or traced, or on the log that was audited or watched, and none on
+-- what another order asks for
 abbrev pub IsNoteFor : (input : Option (List ℕ)) → Option NoEvents → Order → Type 0
 IsNoteFor input note (order.Draw settings part) = IsNoteOn settings input note
 IsNoteFor input note (order.Trace settings vector) = IsNoteOn settings input note
 IsNoteFor input note (order.Audit options asked json) = IsLogNote options (records_in json input) note
+IsNoteFor input note (order.Watch options json) = IsWatchNote options (records_in json input) note
 IsNoteFor input note _ = note ≡ None
 
 -- what has no note, at its end
@@ -141,6 +145,7 @@ IsStop arguments (stop.Line fault.Forms) = AskForMistake arguments fault.Forms
 IsStop arguments (stop.Line fault.Unsent) = AskForMistake arguments fault.Unsent
 IsStop arguments (stop.Line fault.Receives) = AskForMistake arguments fault.Receives
 IsStop arguments (stop.Line fault.Question) = AskForMistake arguments fault.Question
+IsStop arguments (stop.Line fault.Output) = AskForMistake arguments fault.Output
 IsStop arguments (stop.Line (fault.Sign option)) = AskForMistake arguments (fault.Sign option)
 IsStop arguments (stop.Line (fault.Part m)) = AskForMistake arguments (fault.Part m)
 IsStop arguments (stop.Line (fault.Records m)) = AskForMistake arguments (fault.Records m)

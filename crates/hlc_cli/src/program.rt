@@ -20,6 +20,7 @@ use hlc_log_commands::{NameKey, audit_log, draw_log, vectors_of_log};
 use hlc_script_commands::{draw_script, draw_script_chain, print_storm, run_script, trace_script};
 use hlc_threads_command::play;
 use hlc_trace::judge_run;
+use hlc_watch_command::watch_log;
 use std::fmt::Display;
 use std::hash::RandomState;
 use std::io;
@@ -73,12 +74,13 @@ fn name_key<R: RandomSource>(rt: &R, order: &Order) -> Result<NameKey, CommandFa
     ensures { IfErr result (λ fault. fault ≡ CommandFault.Records RecordsFault.Read) }
 {
     match order {
-        Order::Audit { .. } | Order::DrawLog { .. } | Order::Vectors { .. } => {
-            match RandomState::new(rt) {
-                Ok(state) => Ok(NameKey::drawn(state)),
-                Err(_) => Err(CommandFault::Records(RecordsFault::Read)),
+        Order::Audit { .. } | Order::Watch { .. } | Order::DrawLog { .. } | Order::Vectors { .. } =>
+            {
+                match RandomState::new(rt) {
+                    Ok(state) => Ok(NameKey::drawn(state)),
+                    Err(_) => Err(CommandFault::Records(RecordsFault::Read)),
+                }
             }
-        }
         _ => Ok(NameKey::fixed()),
     }
 }
@@ -123,6 +125,7 @@ fn carry_out<R: AllocGlobal + Threads + Wait + Sync, I: Read + Drop, O: Write>(
             asked,
             json,
         } => audit_log(alloc, reader, writer, options, &asked, json, key),
+        Order::Watch { options, json } => { watch_log(alloc, reader, writer, options, json, key) }
         Order::DrawLog { options, json } => {
             unnoted(draw_log(alloc, reader, writer, options, json, key))
         }
@@ -165,8 +168,8 @@ fn dispatch<R: AllocGlobal + Threads + Wait + RandomSource + Sync, I: Read + Dro
 }
 
 /// Performs the arguments of a command line: does the order that they give, or shows the text that they ask for. `perform` tells the
-/// user of its faults, and of its note: a script that is drawn or traced has records, and none of them is an event, or a log that is audited has
-/// none.
+/// user of its faults, and of its note: a script that is drawn or traced has records, and none of them is an event, or a log that is audited or
+/// watched has none.
 pub fn try_perform<R: AllocGlobal + Threads + Wait + RandomSource + Sync, I: Read + Drop, O: Write>(
     rt: &R,
     arguments: &[&str],
@@ -177,7 +180,7 @@ pub fn try_perform<R: AllocGlobal + Threads + Wait + RandomSource + Sync, I: Rea
     ensures noted { IfOk result (IsNoteAt (texts arguments.now) (I.remaining reader)) }
 
     // If an event is named that isn't there, the input is not a log, or has no event, or stamps in it are broken or over the limit, the rest is
-    // done: the picture is drawn, or the log audited, and the output says so.
+    // done: the picture is drawn, or the log audited or watched, and the output says so.
     ensures told { IfErr result (λ fault. IsOfAnswer fault → ArePerformedBut fault (texts arguments.now)
         (I.remaining reader) (O.contents writer.old) (O.contents writer.new)) }
     ensures stopped { IfErr result (IsStop (texts arguments.now)) }
@@ -329,9 +332,9 @@ fn end<E: Write>(
 
 /// Performs what a command line asks for, given its arguments, the first of which is the program's name, and tells how that ended: with
 /// status 0 if it was done, 1 for a fault, which a line on `errors` reports, 2 for a mistake in the arguments, which clap's text or a
-/// line on `errors` reports, 3 for a log whose stamps are broken or over the limit, and 4 for an input that is no log, or, in a strict audit, one
-/// without events, each with its line. At status 0 a line on `errors` says so if a script that was drawn or traced has records, and none of them is
-/// an event, or if a log that was audited has none. Where the line can't be written, the status is the same.
+/// line on `errors` reports, 3 for a log whose stamps are broken or over the limit, and 4 for an input that is no log, or, in a strict audit or watch,
+/// one without events, each with its line. At status 0 a line on `errors` says so if a script that was drawn or traced has records, and none of them is
+/// an event, or if a log that was audited or watched has none. Where the line can't be written, the status is the same.
 pub fn perform<
     R: AllocGlobal + Threads + Wait + RandomSource + Sync,
     I: Read + Drop,

@@ -52,6 +52,7 @@ module _ (rows : List Row) where
   mistaken_options fault.Unsent is = is
   mistaken_options fault.Receives is = is
   mistaken_options fault.Question is = is
+  mistaken_options fault.Output is = is
   mistaken_options (fault.Sign option) is = is
   mistaken_options (fault.Part m) is = is
   mistaken_options (fault.Records m) is = is
@@ -64,6 +65,7 @@ module _ (rows : List Row) where
   mistaken_questions fault.Unsent is = absurd is
   mistaken_questions fault.Receives is = absurd is
   mistaken_questions fault.Question is = is
+  mistaken_questions fault.Output is = absurd is
   mistaken_questions (fault.Sign option) is = absurd is
   mistaken_questions (fault.Part m) is = absurd is
   mistaken_questions (fault.Records m) is = absurd is
@@ -76,6 +78,7 @@ module _ (rows : List Row) where
   mistaken_audit name fault.Unsent named is = inr (inl (named, is))
   mistaken_audit name fault.Receives named is = inr (inl (named, is))
   mistaken_audit name fault.Question named is = inr (inl (named, is))
+  mistaken_audit name fault.Output named is = inr (inl (named, is))
   mistaken_audit name (fault.Sign option) named is = absurd is
   mistaken_audit name (fault.Part m) named is = inr (inl (named, is))
   mistaken_audit name (fault.Records m) named is = inr (inl (named, is))

@@ -20,7 +20,7 @@ use Rattle.hlc_packed.specs.Packed.{CanCount}
 use Rattle.hlc_packed.specs.declared.packed_bits.PackedBits.{PackedBits}
 use Rattle.hlc_command_line.specs.LineOption.{AreUnsigned}
 use Rattle.hlc_command_line.specs.NumberOption.{IsNumberOf, IsOptionalNumber, IsSigned}
-use Rattle.hlc_command_line.specs.Line.{HasOptions, HasUnlessSigned, IsEntered, IsRefusal, IsRefusedFound, all_numbers, capacity, draw_log_numbers, draw_log_options, explain, from, limit, line_app, nodes, number_names, packed, positive, receives_word, rows_around, seed, steps, subcommand_audit, subcommand_draw, subcommand_draw_log, subcommand_run, subcommand_storm, subcommand_threads, subcommand_trace, subcommand_vectors, subcommands, to, tolerance}
+use Rattle.hlc_command_line.specs.Line.{HasOptions, HasUnlessSigned, IsEntered, IsRefusal, IsRefusedFound, all_numbers, capacity, draw_log_numbers, draw_log_options, every, explain, from, keep, limit, line_app, nodes, number_names, packed, positive, receives_word, rows_around, seed, steps, subcommand_audit, subcommand_draw, subcommand_draw_log, subcommand_run, subcommand_storm, subcommand_threads, subcommand_trace, subcommand_vectors, subcommand_watch, subcommands, to, tolerance}
 use Rattle.hlc_command_line.specs.declared.line_fault.LineFault.{LineFault}
 use Rattle.hlc_command_line.specs.declared.line_fault.LineFault.TheVariants as fault
 use Rattle.hlc_command_line.proofs.App.Each.{Each}
@@ -93,7 +93,14 @@ line_is_orderly =
     ) in
     let trace : IsOrderly subcommand_trace =
     ((refl, nodes_are_numbers), ((refl, capacity_is_number), ((refl, limit_is_number), ((refl, tt), tt)))) in
-    let audit : IsOrderly subcommand_audit = ((refl, packed_is_number), ((refl, tt), ((refl, tolerance_is_number), ((refl, tt), ((refl, tt), ((refl, tt), ((refl, tt), ((refl, tt), ((refl, tt), ((refl, tt), ((refl, tt), ((refl, tt), ((refl, tt), ((refl, tt), ((refl, limit_is_number), ((refl, tt), ((refl, tt), ((refl, tt), tt)))))))))))))))))) in
+    let audit : IsOrderly subcommand_audit = ((refl, packed_is_number), ((refl, tt), ((refl, tolerance_is_number), ((refl, tt), ((refl, tt), ((refl, tt), ((refl, tt), ((refl, tt), ((refl, tt), ((refl, tt), ((refl, tt), ((refl, tt), ((refl, tt), ((refl, tt), ((refl, limit_is_number), ((refl, tt), ((refl, tt), ((refl, tt), ((refl, tt), tt))))))))))))))))))) in
+    let watch : IsOrderly subcommand_watch = (
+      (refl, packed_is_number),
+      (
+        (refl, tt),
+        ((refl, tolerance_is_number), ((refl, tt), ((refl, tt), ((refl, tt), ((refl, tt), ((refl, tt), ((refl, tt), ((refl, tt), ((refl, tt), ((refl, limit_is_number), ((refl, positive_is_number keep.name), ((refl, positive_is_number every.name), tt)))))))))))),
+      ),
+    ) in
     let draw_log : IsOrderly subcommand_draw_log = ((refl, packed_is_number), ((refl, tt), ((refl, tolerance_is_number), ((refl, tt), ((refl, tt), ((refl, tt), ((refl, tt), ((refl, tt), ((refl, tt), ((refl, tt), ((refl, tt), ((refl, tt), ((refl, tt), ((refl, tt), ((refl, tt), ((refl, tt), ((refl, tt), ((refl, positive_is_number rows_around.name), ((refl, tt), tt))))))))))))))))))) in
     let vectors : IsOrderly subcommand_vectors = (
       (refl, packed_is_number),
@@ -102,7 +109,7 @@ line_is_orderly =
     let storm : IsOrderly subcommand_storm = ((refl, nodes_are_numbers), ((refl, steps_are_numbers), ((refl, seed_is_number), tt))) in
     let threads : IsOrderly subcommand_threads =
     ((refl, nodes_are_numbers), ((refl, steps_are_numbers), ((refl, seed_is_number), ((refl, limit_is_number), tt)))) in
-    (run, (draw, (trace, (tt, (audit, (draw_log, (vectors, (storm, (threads, tt)))))))))
+    (run, (draw, (trace, (tt, (audit, (watch, (draw_log, (vectors, (storm, (threads, tt))))))))))
 
 is_entered : (has missing : Bool) → check_kinds (not has && false) (not has && true) missing ≡ [] → has ≡ true
 is_entered true missing e = refl
@@ -152,7 +159,7 @@ draw_log_unsigned rows (r, (p, (d, none))) =
     (p, (tt, (d, (tt, (tt, (tt, (tt, (tt, (tt, (tt, (tt, (tt, (tt, (tt, (tt, (tt, (tt, (r, (tt, tt)))))))))))))))))))
 
 each_unsigned : (rows : List Row) → AllByRecursion (λ name. ¬ IsSigned rows name) all_numbers → Each (λ s. AreUnsigned rows s.options) subcommands
-each_unsigned rows (n, (c, (l, (k, (s, (e, (f, (t, (r, (p, (d, none))))))))))) = (
+each_unsigned rows (n, (c, (l, (k, (s, (e, (f, (t, (r, (p, (d, (kept, (each, none))))))))))))) = (
   (n, (c, (l, tt))),
   (
     (n, (c, (l, (e, (f, (t, (tt, tt))))))),
@@ -161,12 +168,15 @@ each_unsigned rows (n, (c, (l, (k, (s, (e, (f, (t, (r, (p, (d, none))))))))))) =
       (
         tt,
         (
-          (p, (tt, (d, (tt, (tt, (tt, (tt, (tt, (tt, (tt, (tt, (tt, (tt, (tt, (l, (tt, (tt, (tt, tt)))))))))))))))))),
+          (p, (tt, (d, (tt, (tt, (tt, (tt, (tt, (tt, (tt, (tt, (tt, (tt, (tt, (l, (tt, (tt, (tt, (tt, tt))))))))))))))))))),
           (
-            draw_log_unsigned rows (r, (p, (d, none))),
+            (p, (tt, (d, (tt, (tt, (tt, (tt, (tt, (tt, (tt, (tt, (l, (kept, (each, tt)))))))))))))),
             (
-              (p, (tt, (d, (tt, (tt, (tt, (tt, (tt, (tt, (tt, (tt, (tt, (tt, tt))))))))))))),
-              ((n, (k, (s, tt))), ((n, (k, (s, (l, tt)))), tt)),
+              draw_log_unsigned rows (r, (p, (d, tt))),
+              (
+                (p, (tt, (d, (tt, (tt, (tt, (tt, (tt, (tt, (tt, (tt, (tt, (tt, tt))))))))))))),
+                ((n, (k, (s, tt))), ((n, (k, (s, (l, tt)))), tt)),
+              ),
             ),
           ),
         ),
@@ -209,13 +219,14 @@ not_true false h = refl
 pub mistake_refuses : (arguments : List Text) → fault_of line_app arguments ≡ [] → (f : LineFault)
     → IsRefusedFound (subcommand_of line_app arguments) f → IsRefusal arguments f
 mistake_refuses arguments none (fault.Line e) is =
-    absurd (⊎_elim (λ drawn. drawn.1) (λ of_log. ⊎_elim (λ audit. audit.1) (λ read. ⊎_elim (λ drawn. drawn.1) (λ vectors. vectors.1) read) of_log) is.3)
+    absurd (⊎_elim (λ drawn. drawn.1) (λ of_log. ⊎_elim (λ audit. audit.1) (λ read. ⊎_elim (λ drawn. drawn.1) (λ others. ⊎_elim (λ vectors. vectors.1) (λ watch. watch.1) others) read) of_log) is.3)
 mistake_refuses arguments none fault.Range is =
-    absurd (⊎_elim (λ drawn. drawn.1) (λ of_log. ⊎_elim (λ audit. audit.1) (λ read. ⊎_elim (λ drawn. drawn.1) (λ vectors. vectors.1) read) of_log) is.3)
+    absurd (⊎_elim (λ drawn. drawn.1) (λ of_log. ⊎_elim (λ audit. audit.1) (λ read. ⊎_elim (λ drawn. drawn.1) (λ others. ⊎_elim (λ vectors. vectors.1) (λ watch. watch.1) others) read) of_log) is.3)
 mistake_refuses arguments none fault.Forms is = (none, is)
 mistake_refuses arguments none fault.Unsent is = (none, is)
 mistake_refuses arguments none fault.Receives is = (none, is)
 mistake_refuses arguments none fault.Question is = (none, is)
+mistake_refuses arguments none fault.Output is = (none, is)
 mistake_refuses arguments none (fault.Sign option) is = (none, is)
 mistake_refuses arguments none (fault.Part m) is = (none, is)
 mistake_refuses arguments none (fault.Records m) is = (none, is)

@@ -35,6 +35,7 @@ line_fault_text fault.Forms = Some (codes "--packed and --dotted are two forms o
 line_fault_text fault.Unsent = Some (codes "--unsent takes only the word `local`")
 line_fault_text fault.Receives = Some (codes "--receives takes `tick`, `merge` or `merge-clock`")
 line_fault_text (fault.Sign option) = Some (codes "--" ++ option.now ++ codes " takes a whole number without a sign")
+line_fault_text fault.Output = Some (codes "--output takes `csv`, `json` or `text`")
 line_fault_text fault.Question = Some (codes "--ask takes a question of a log: explain,LINE, check,LINE,LINE.., relation,LINE,LINE, influenced,LINE, drift,NODE, claimed,LINE or event,LINE")
 line_fault_text (fault.Part m) = Some (part_mistake_text m)
 line_fault_text (fault.Records m) = Some (records_mistake_text m)

@@ -40,8 +40,11 @@ use Rattle.hlc_command_line.specs.declared.line_order.LogPart.{LogPart}
 use Rattle.hlc_command_line.specs.declared.line_order.LogPart.TheVariants.{Chain, Rows}
 use Rattle.hlc_command_line.specs.declared.line_order.LogRows.{LogRows}
 use Rattle.hlc_command_line.specs.declared.line_order.LogRows.TheVariants.{Around, Between}
-use Rattle.hlc_command_line.specs.declared.line_order.TheConstants.{USUAL_ROWS}
+use Rattle.hlc_command_line.specs.declared.line_order.TheConstants.{USUAL_KEPT, USUAL_ROWS}
+use Rattle.hlc_command_line.specs.declared.line_order.WatchOptions.{WatchOptions}
 use Rattle.hlc_command_line.specs.declared.line_order.Order.{Order}
+use Rattle.hlc_command_line.specs.declared.line_order.OutputForm.{OutputForm}
+use Rattle.hlc_command_line.specs.declared.line_order.OutputForm.TheVariants as form
 use Rattle.hlc_command_line.specs.declared.line_order.Order.TheVariants as order
 use Rattle.hlc_command_line.specs.declared.subcommand_rule.SubcommandName.{SubcommandName}
 use Rattle.hlc_command_line.specs.declared.subcommand_rule.SubcommandName.TheVariants as named
@@ -81,6 +84,13 @@ positive name = optional (unsigned_option name 1 (2 ^ 32 - 1))
 -- how many rows about an event are drawn
 abbrev pub rows_around : NumberOption
 rows_around = positive (codes "rows")
+
+-- how many messages a watch remembers, and after how many events each it sums up
+abbrev pub keep : NumberOption
+keep = positive (codes "keep")
+
+abbrev pub every : NumberOption
+every = positive (codes "every")
 
 abbrev pub only_chain : Text
 only_chain = codes "only-chain"
@@ -126,6 +136,15 @@ report = codes "report"
 abbrev pub groups : Text
 groups = codes "groups"
 
+-- how what an audit finds is written, and the words for it
+abbrev pub output : Text
+output = codes "output"
+
+abbrev pub output_word : OutputForm → Text
+output_word form.Csv = codes "csv"
+output_word form.Json = codes "json"
+output_word form.Text = codes "text"
+
 -- the options of a cluster's settings
 abbrev pub settings_options : List LineOption
 settings_options = number nodes ∷ number capacity ∷ number limit ∷ []
@@ -157,10 +176,19 @@ record_options =
 
 -- how a log is read and audited
 abbrev pub log_options : List LineOption
-log_options = record_options ++ flag strict ∷ number limit ∷ many ask ∷ flag report ∷ flag groups ∷ []
+log_options = record_options ++ flag strict ∷ number limit ∷ many ask ∷ flag report ∷ flag groups ∷ word output ∷ []
 
 abbrev pub subcommand_audit : Subcommand
 subcommand_audit = record { name = codes "audit"; options = log_options }
+
+-- how a log is read and watched
+abbrev pub watch_options : List LineOption
+watch_options =
+    number packed ∷ flag dotted ∷ number tolerance ∷ word receives ∷ flag lenient ∷ flag jsonl ∷ many field ∷ many kind ∷ word reading_unit ∷ word l_unit
+    ∷ flag strict ∷ number limit ∷ number keep ∷ number every ∷ []
+
+abbrev pub subcommand_watch : Subcommand
+subcommand_watch = record { name = codes "watch"; options = watch_options }
 
 -- what of a log is drawn
 abbrev pub part_options : List LineOption
@@ -190,14 +218,14 @@ subcommand_threads = record { name = codes "threads"; options = seeded_options +
 -- the subcommands of `hlc`
 abbrev pub subcommands : List Subcommand
 subcommands =
-    subcommand_run ∷ subcommand_draw ∷ subcommand_trace ∷ subcommand_judge ∷ subcommand_audit ∷ subcommand_draw_log ∷ subcommand_vectors
-    ∷ subcommand_storm ∷ subcommand_threads ∷ []
+    subcommand_run ∷ subcommand_draw ∷ subcommand_trace ∷ subcommand_judge ∷ subcommand_audit ∷ subcommand_watch ∷ subcommand_draw_log
+    ∷ subcommand_vectors ∷ subcommand_storm ∷ subcommand_threads ∷ []
 
 -- the options that take numbers
 abbrev pub all_numbers : List Text
 all_numbers =
     nodes.name ∷ capacity.name ∷ limit.name ∷ steps.name ∷ seed.name ∷ explain.name ∷ from.name ∷ to.name ∷ rows_around.name ∷ packed.name
-    ∷ tolerance.name ∷ []
+    ∷ tolerance.name ∷ keep.name ∷ every.name ∷ []
 
 -- those of them that do so in `draw-log`
 abbrev pub draw_log_numbers : List Text
@@ -222,6 +250,7 @@ subcommand_named named.Draw = subcommand_draw
 subcommand_named named.Trace = subcommand_trace
 subcommand_named named.Judge = subcommand_judge
 subcommand_named named.Audit = subcommand_audit
+subcommand_named named.Watch = subcommand_watch
 subcommand_named named.DrawLog = subcommand_draw_log
 subcommand_named named.Vectors = subcommand_vectors
 subcommand_named named.Storm = subcommand_storm
@@ -272,6 +301,14 @@ IsReceivesOf rows given = unwrap_or (first_of receives rows) (codes "tick") ≡ 
 abbrev pub IsNoReceives : List Row → Type 0
 IsNoReceives rows = (text : Text) × (first_of receives rows ≡ Some text) × ((given : Receives) → text ≢ receives_word given)
 
+-- how what is found is written is told by the word that was given: as CSV if none was
+abbrev pub IsOutputOf : List Row → OutputForm → Type 0
+IsOutputOf rows given = unwrap_or (first_of output rows) (codes "csv") ≡ output_word given
+
+-- a word was given that tells no form
+abbrev pub IsNoOutput : List Row → Type 0
+IsNoOutput rows = (text : Text) × (first_of output rows ≡ Some text) × ((given : OutputForm) → text ≢ output_word given)
+
 -- bad records are left out just if `--lenient` was given, and each is told just if `--all-faults` was
 abbrev pub IsFaultRuleOf : List Row → FaultRule → Type 0
 IsFaultRuleOf rows First = IsFlagOf rows lenient false × IsFlagOf rows all_faults false
@@ -315,6 +352,32 @@ pub record AreAuditOptions (rows : List Row) (given : AuditOptions) : Type 0 whe
   pub limit_is : IsOptionalNumber rows limit given.limit
   pub report_is : IsFlagOf rows report given.report
   pub groups_are : IsFlagOf rows groups given.groups
+  pub output_is : IsOutputOf rows given.output
+
+-- bad records are left out just if `--lenient` was given
+abbrev pub IsLeftOutOf : List Row → FaultRule → Type 0
+IsLeftOutOf rows First = IsFlagOf rows lenient false
+IsLeftOutOf rows LeaveOut = IsFlagOf rows lenient true
+IsLeftOutOf rows TellEach = ⊥
+
+-- how the records of a log that is watched are read is what was given: nothing is said of messages that nobody sends, or that are sent again
+pub record AreWatchRules (rows : List Row) (given : LogRules) : Type 0 where
+  pub form_is : IsFormOf rows given.form
+  pub tolerance_is : IsNumberOr rows tolerance 0 given.tolerance
+  pub receives_are : IsReceivesOf rows given.receives
+  pub unsent_is : given.unsent_local ≡ false
+  pub resent_is : given.resent ≡ None
+  pub faults_are : IsLeftOutOf rows given.faults
+  pub syntax_is : IsSyntaxOf rows given.syntax
+  pub units_are : AreUnitsOf rows given.units
+
+-- the options of `watch` are what was given: 1000000 messages are remembered if no other number is
+pub record AreWatchOptions (rows : List Row) (given : WatchOptions) : Type 0 where
+  pub records_are : AreWatchRules rows given.records
+  pub strict_is : IsFlagOf rows strict given.strict
+  pub limit_is : IsOptionalNumber rows limit given.limit
+  pub keep_is : IsNumberOr rows keep USUAL_KEPT given.keep
+  pub every_is : IsOptionalNumber rows every given.every
 
 -- which rows of a log are drawn: those from one event to another, or as many about an event as are given, or 40
 abbrev pub AreLogRows : List Row → LogRows → Type 0
@@ -342,6 +405,7 @@ IsOrderOf name rows (order.Trace settings v) = (name ≡ codes "trace") × AreSe
 IsOrderOf name rows order.Judge = name ≡ codes "judge"
 IsOrderOf name rows (order.Audit options asked json) =
     (name ≡ codes "audit") × AreAuditOptions rows options × AreAsked (texts_of_option rows ask) asked.items × IsJsonOf rows json
+IsOrderOf name rows (order.Watch options json) = (name ≡ codes "watch") × AreWatchOptions rows options × IsJsonOf rows json
 IsOrderOf name rows (order.DrawLog options json) = (name ≡ codes "draw-log") × AreDrawLogOptions rows options × IsJsonOf rows json
 IsOrderOf name rows (order.Vectors records json) = (name ≡ codes "vectors") × AreLogRules rows records × IsJsonOf rows json
 IsOrderOf name rows (order.Storm n k s) = (name ≡ codes "storm") × AreSeeded rows n k s
@@ -351,9 +415,10 @@ IsOrderOf name rows (order.Threads n k s l) = (name ≡ codes "threads") × AreS
 abbrev pub IsOrderFound : Option (Text × List Row) → Order → Type 0
 IsOrderFound found o = (name : Text) × (rows : List Row) × (found ≡ Some (name, rows)) × IsOrderOf name rows o
 
--- what of the options of `audit` no order says: no rules say how its records are read, or an `--ask` asks nothing
+-- what of the options of `audit` no order says: no rules say how its records are read, or an `--ask` asks nothing, or `--output` has a word that is none
 abbrev pub IsAuditMistake : List Row → LineFault → Type 0
 IsAuditMistake rows fault.Question = AsksNothing (texts_of_option rows ask)
+IsAuditMistake rows fault.Output = IsNoOutput rows
 IsAuditMistake rows f = IsRulesMistake rows f
 
 -- what of a part of a history no order says: `--only-chain` is given without `--explain`, or with an event at which others begin or end
@@ -377,13 +442,14 @@ abbrev pub IsLogMistake : List Row → LineFault → Type 0
 IsLogMistake rows (fault.Part m) = IsPartMistake rows m
 IsLogMistake rows f = IsRulesMistake rows f
 
--- what of the options of the subcommand of this name no order says: a number with a sign; the others are of `draw`, `audit`, `draw-log` or `vectors`
+-- what of the options of the subcommand of this name no order says: a number with a sign; the others are of `draw`, `audit`, `draw-log`, `vectors` or `watch`
 abbrev pub IsMistakeOf : Text → List Row → LineFault → Type 0
 IsMistakeOf name rows (fault.Sign option) = IsSignedAmong rows (number_names name) option.now
 IsMistakeOf name rows f =
     ((name ≡ codes "draw") × IsHistoryMistake rows f)
     ⊎ (((name ≡ codes "audit") × IsAuditMistake rows f)
-    ⊎ (((name ≡ codes "draw-log") × IsLogMistake rows f) ⊎ ((name ≡ codes "vectors") × IsRulesMistake rows f)))
+    ⊎ (((name ≡ codes "draw-log") × IsLogMistake rows f)
+    ⊎ (((name ≡ codes "vectors") × IsRulesMistake rows f) ⊎ ((name ≡ codes "watch") × IsRulesMistake rows f))))
 
 -- the same of the subcommand that was found
 abbrev pub IsMistakeFound : Option (Text × List Row) → LineFault → Type 0
@@ -444,6 +510,7 @@ IsRefusal arguments fault.Forms = AskForMistake arguments fault.Forms
 IsRefusal arguments fault.Unsent = AskForMistake arguments fault.Unsent
 IsRefusal arguments fault.Question = AskForMistake arguments fault.Question
 IsRefusal arguments fault.Receives = AskForMistake arguments fault.Receives
+IsRefusal arguments fault.Output = AskForMistake arguments fault.Output
 IsRefusal arguments (fault.Sign option) = AskForMistake arguments (fault.Sign option)
 IsRefusal arguments (fault.Part m) = AskForMistake arguments (fault.Part m)
 IsRefusal arguments (fault.Records m) = AskForMistake arguments (fault.Records m)

@@ -135,6 +135,7 @@ The answer has these rows, with lines counted from 1:
                                      how far the furthest is ahead, and the line where that L came in
   group,NODE,RULE,OF,N,LINE          with `--groups`, N causes at events of NODE have the word RULE and compare with a stamp of the node OF,
                                      its own or that of a message, or with a reading, if OF is empty; and the line of the first
+With `--output json` it is one object of JSON: a list for each of these words, and in it an object for each row, with its fields by name.
 If the input is no log, the answer is the one row `bad,LINE,WHY`, and the status is 4; a column that an object lacks, or that is badly
 written, is named besides, and so is a message that is sent twice or isn't sent. With `--all-faults` each such record has its row. With
 `--lenient` bad records are left out, but for a header, and for one whose quotation mark is open. If the log has no event, a line on standard error says so, and with `--strict` the
@@ -148,6 +149,27 @@ Questions, as records of the log or each by `--ask`, are answered in place of th
 Example:
   printf 'local,a,10,10,0\\nlocal,a,10,11,0\\n' | hlc audit
 answers, among other rows, `cause,2,a,ahead,10,1`: on line 2 the stamp (10, 1) was enough.";
+
+pub const WATCH: &str =
+    "Watches a log of claimed stamps from standard input, and tells what broke the clock rule as it comes";
+
+pub const WATCHED_LOG: &str = "\
+The log is that of `hlc audit`, as it comes. The lines of a node come in its own order, and those of different nodes in any: a receive whose
+send hasn't come waits for it. As soon as it is known, each is told:
+  cause,LINE,NODE,WORD..             as `hlc audit` does; a line is that of the input
+  over,NODE,LINE,AHEAD               with `--limit D`, an event claims an L more than D above its reading
+In the end, and after every N events with `--every N`:
+  node,NODE,EVENTS,AHEAD,LINE        how far the claim that is furthest above its reading is, and its line; or `none`
+  messages,SENT,RECEIVED
+  waiting,N                          so many receives wait for their sends
+  forgotten,N                        so many waited and were forgotten
+  left-out,N                         so many records were bad
+With `--keep N` the latest N messages are remembered, and as many receives wait; what is forgotten is counted, and not judged. Each event has a
+stamp, and each message a name. A record that is bad is told as `bad,LINE,WHY`, and ends the watch with status 4, unless `--lenient` leaves it out.
+
+Example:
+  printf 'receive,b,5,10,0,m\\nsend,a,10,10,0,m\\n' | hlc watch
+answers, among other rows, `cause,1,b,not-above,2`; and `tail -f node.log | hlc watch` tells of each fault as it comes.";
 
 pub const DRAW_LOG: &str = "Draws a log of claimed stamps from standard input, as SVG";
 

@@ -4,8 +4,8 @@
 //! numbers are within their limits, so whoever carries it out needn't test them again.
 //!
 //! - `order` reads the arguments.
-//! - `Order` is what they ask for, one variant for each subcommand; `AuditOptions` is what `audit` is given, and `DrawLogOptions` what
-//!   `draw-log` is, with how lines of JSON are read, if the log has them. `HistoryPart` and `LogPart` say what of a history or a log is
+//! - `Order` is what they ask for, one variant for each subcommand; `AuditOptions` is what `audit` is given, `WatchOptions` what `watch` is, and
+//!   `DrawLogOptions` what `draw-log` is, with how lines of JSON are read, if the log has them. `HistoryPart` and `LogPart` say what of a history or a log is
 //!   drawn, this by the lines of events (`LogLine`).
 //! - `LineFault` is a mistake in the arguments, or a text that they ask for, such as the help.
 //! - `hint_for` says what else the user is told of arguments that are refused: a range of numbers, or where a log is read from.
@@ -50,10 +50,12 @@ mod option_value;
 mod resent_option;
 mod subcommand_rule;
 mod unit_options;
+mod watch_options;
 
 pub use hint::{Hint, hint_for, sign_hint};
 pub use line::order;
 pub use line_fault::{LineFault, PartMistake, RecordsMistake};
 pub use line_order::{
-    AuditOptions, DrawLogOptions, HistoryPart, LogLine, LogPart, LogRows, Order, USUAL_ROWS,
+    AuditOptions, DrawLogOptions, HistoryPart, LogLine, LogPart, LogRows, Order, OutputForm,
+    USUAL_KEPT, USUAL_ROWS, WatchOptions,
 };

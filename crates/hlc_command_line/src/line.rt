@@ -4,7 +4,7 @@ ghost use Rattle.std.specs.Prelude.{IfErr, IfOk, IsTrue, OnOk, [], codes, ◌↔
 ghost use Rattle.clap.specs.Words.{found_of, rows_of, subcommand_of, subcommand_rows_of};
 ghost use Rattle.clap.specs.Walk.{texts};
 ghost use Rattle.hlc_command_line.specs.LineOption.{HaveOptions};
-ghost use Rattle.hlc_command_line.specs.Line.{HasOptions, IsAbove, IsAuditMistake, IsEntered, IsMistakeOf, IsOrderFound, IsOrderOf, IsRefusal, IsRefusedFound, IsTurned, UnlessMemory, draw_log_options, draw_options, line_app, line_faults, log_options, record_options};
+ghost use Rattle.hlc_command_line.specs.Line.{HasOptions, IsAbove, IsAuditMistake, IsEntered, IsMistakeOf, IsOrderFound, IsOrderOf, IsRefusal, IsRefusedFound, IsTurned, UnlessMemory, draw_log_options, draw_options, line_app, line_faults, log_options, record_options, watch_options};
 
 use crate::asked::asked_questions;
 use crate::cluster_options::{Seeded, seeded_numbers, settings};
@@ -17,6 +17,7 @@ use crate::log_options::{audit_options, log_rules};
 use crate::log_part::draw_log_options;
 use crate::number_signs::{number_names, signed_option};
 use crate::option_value::{drift_limit, flag};
+use crate::watch_options::watch_options;
 use clap::ArgMatches;
 use clap::error::ErrorKind;
 use hlc_stamp::EventId;
@@ -45,6 +46,20 @@ fn audit_order(alloc: Global, options: &ArgMatches<'_>) -> Result<Order, LineFau
     Ok(Order::Audit {
         options: audit,
         asked,
+        json,
+    })
+}
+
+// The order of `watch`.
+fn watch_order(alloc: Global, options: &ArgMatches<'_>) -> Result<Order, LineFault>
+    requires { HaveOptions (rows_of (found_of options.now)) watch_options }
+    ensures found { IfOk result (IsOrderOf (codes "watch") (rows_of (found_of options.now))) }
+    ensures mistaken { IfErr result (UnlessMemory (IsMistakeOf (codes "watch") (rows_of (found_of options.now)))) }
+{
+    let watch = watch_options(options)?;
+    let json = json_rules(alloc, options)?;
+    Ok(Order::Watch {
+        options: watch,
         json,
     })
 }
@@ -89,6 +104,7 @@ fn order_of(alloc: Global, name: &str, options: &ArgMatches<'_>) -> Result<Order
         }),
         "judge" => Ok(Order::Judge),
         "audit" => audit_order(alloc, options),
+        "watch" => watch_order(alloc, options),
         "draw-log" => draw_log_order(alloc, options),
         "vectors" => vectors_order(alloc, options),
         "storm" => {

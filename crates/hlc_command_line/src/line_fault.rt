@@ -103,6 +103,8 @@ pub enum LineFault {
     Unsent,
     /// A word is given for what clocks do at receives that says none of it.
     Receives,
+    /// A word is given for how what is found is written that names no form.
+    Output,
     /// A number is given with a sign, for the option of this name.
     Sign(&'static str),
     /// A text that asks nothing is given for a question.
@@ -132,6 +134,7 @@ impl fmt::Display for LineFault {
             LineFault::Forms => "--packed and --dotted are two forms of stamps",
             LineFault::Unsent => "--unsent takes only the word `local`",
             LineFault::Receives => "--receives takes `tick`, `merge` or `merge-clock`",
+            LineFault::Output => "--output takes `csv`, `json` or `text`",
             LineFault::Question =>
                 "--ask takes a question of a log: explain,LINE, check,LINE,LINE.., relation,LINE,LINE, influenced,LINE, drift,NODE, claimed,LINE or event,LINE",
             LineFault::Memory => "out of memory",

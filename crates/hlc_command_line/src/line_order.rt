@@ -1,6 +1,19 @@
+ghost use Rattle.std.specs.Prelude.{◌<◌};
+
 use hlc_json_lines::JsonRules;
 use hlc_log_text::{Location, LogQuestion, LogRules};
 use hlc_stamp::{EventId, Settings};
+
+/// How what an audit finds is written.
+#[derive(Clone, Copy, Debug, PartialEq, Eq)]
+pub enum OutputForm {
+    /// As rows of CSV.
+    Csv,
+    /// As one object of JSON, with the same rows.
+    Json,
+    /// As text for people, by the same rows.
+    Text,
+}
 
 /// How a log is read and audited.
 #[derive(Clone, Copy, Debug)]
@@ -15,6 +28,27 @@ pub struct AuditOptions {
     pub report: bool,
     /// Whether the causes are also told in groups.
     pub groups: bool,
+    /// How what is found is written.
+    pub output: OutputForm,
+}
+
+/// How many messages a watch remembers if no other number is given.
+pub const USUAL_KEPT: u32 = 1_000_000;
+
+/// How a log is read and watched.
+#[derive(Clone, Copy, Debug)]
+pub struct WatchOptions {
+    /// How its records are read.
+    pub records: LogRules,
+    /// Whether the status is to tell if a stamp is behind or not above another one, or a message carried another stamp than its send.
+    pub strict: bool,
+    /// How far a claimed `l` may be above its reading, if there is a limit.
+    pub limit: Option<u64>,
+    /// How many messages are remembered.
+    pub keep: u32,
+    /// After how many events each the log is summed up, if not at its end alone.
+    pub every: Option<u32>,
+    pub ghost some_kept: { 0 < keep },
 }
 
 /// How many rows about an event are drawn if no other number is given.
@@ -120,6 +154,13 @@ pub enum Order {
         options: AuditOptions,
         /// What is asked beside the log.
         asked: Vec<LogQuestion>,
+        /// How its lines are read, if they are JSON.
+        json: Option<JsonRules>,
+    },
+    /// Watch a log of another system as it comes.
+    Watch {
+        /// How it is read and watched.
+        options: WatchOptions,
         /// How its lines are read, if they are JSON.
         json: Option<JsonRules>,
     },

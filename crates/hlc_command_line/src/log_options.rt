@@ -5,11 +5,11 @@ ghost use Rattle.clap.specs.Words.{found_of, rows_of};
 ghost use Rattle.hlc_command_line.specs.NumberOption.{HasNumber, IsOptionalNumber};
 ghost use Rattle.hlc_command_line.specs.LineOption.{HasFlag, HaveOptions, IsOtherWord, IsWordOf};
 ghost use Rattle.hlc_command_line.specs.JsonOptions.{IsSyntaxOf, jsonl};
-ghost use Rattle.hlc_command_line.specs.Line.{AreAuditOptions, AreLogRules, AreTwoForms, IsAuditMistake, IsFormOf, IsNoReceives, IsNumberOr, IsReceivesOf, IsRulesMistake, all_faults, dotted, lenient, log_options, packed, tolerance, unsent};
+ghost use Rattle.hlc_command_line.specs.Line.{AreAuditOptions, AreLogRules, AreTwoForms, IsAuditMistake, IsFormOf, IsNoReceives, IsNumberOr, IsNoOutput, IsOutputOf, IsReceivesOf, IsRulesMistake, all_faults, dotted, lenient, log_options, packed, tolerance, unsent};
 
 use crate::fault_option::fault_rule;
 use crate::line_fault::LineFault;
-use crate::line_order::AuditOptions;
+use crate::line_order::{AuditOptions, OutputForm};
 use crate::option_value::{drift_limit, flag};
 use crate::resent_option::resent;
 use crate::unit_options::units;
@@ -38,7 +38,7 @@ fn packed_bits(options: &ArgMatches<'_>) -> Option<PackedBits>
 }
 
 // How stamps are written, of a subcommand that has the options.
-fn stamp_form(options: &ArgMatches<'_>) -> Result<StampForm, LineFault>
+pub(crate) fn stamp_form(options: &ArgMatches<'_>) -> Result<StampForm, LineFault>
     requires bits { HasNumber (rows_of (found_of options.now)) packed }
     requires dot { HasFlag (rows_of (found_of options.now)) dotted }
     ensures found { IfOk result (IsFormOf (rows_of (found_of options.now))) }
@@ -61,7 +61,7 @@ fn tolerance_number(options: &ArgMatches<'_>) -> Option<u64>
 }
 
 // Within how much of its clock a reading is known, of a subcommand that has the option.
-fn tolerance(options: &ArgMatches<'_>) -> u64
+pub(crate) fn tolerance(options: &ArgMatches<'_>) -> u64
     requires { HasNumber (rows_of (found_of options.now)) tolerance }
     ensures { IsNumberOr (rows_of (found_of options.now)) tolerance 0 result }
 {
@@ -69,7 +69,7 @@ fn tolerance(options: &ArgMatches<'_>) -> u64
 }
 
 // What clocks do at receives.
-fn receives(options: &ArgMatches<'_>) -> Result<Receives, LineFault>
+pub(crate) fn receives(options: &ArgMatches<'_>) -> Result<Receives, LineFault>
     ensures found { IfOk result (IsReceivesOf (rows_of (found_of options.now))) }
     ensures other { IfErr result (λ fault. (fault ≡ LineFault.Receives) × IsNoReceives (rows_of (found_of options.now))) }
 {
@@ -95,7 +95,7 @@ fn unsent_local(options: &ArgMatches<'_>) -> Result<bool, LineFault>
 }
 
 // In which syntax the records of a log are written, of a subcommand that has the option.
-fn syntax(options: &ArgMatches<'_>) -> RecordSyntax
+pub(crate) fn syntax(options: &ArgMatches<'_>) -> RecordSyntax
     requires { HasFlag (rows_of (found_of options.now)) jsonl }
     ensures { IsSyntaxOf (rows_of (found_of options.now)) result }
 {
@@ -129,6 +129,20 @@ pub(crate) fn log_rules(options: &ArgMatches<'_>) -> Result<LogRules, LineFault>
     })
 }
 
+// How what an audit finds is written.
+fn output_form(options: &ArgMatches<'_>) -> Result<OutputForm, LineFault>
+    ensures found { IfOk result (IsOutputOf (rows_of (found_of options.now))) }
+    ensures other { IfErr result (λ fault. (fault ≡ LineFault.Output) × IsNoOutput (rows_of (found_of options.now))) }
+{
+    match options.get_str("output") {
+        None => Ok(OutputForm::Csv),
+        Some("csv") => Ok(OutputForm::Csv),
+        Some("json") => Ok(OutputForm::Json),
+        Some("text") => Ok(OutputForm::Text),
+        Some(_) => Err(LineFault::Output),
+    }
+}
+
 // The options of `audit`.
 pub(crate) fn audit_options(options: &ArgMatches<'_>) -> Result<AuditOptions, LineFault>
     requires { HaveOptions (rows_of (found_of options.now)) log_options }
@@ -141,5 +155,6 @@ pub(crate) fn audit_options(options: &ArgMatches<'_>) -> Result<AuditOptions, Li
         limit: drift_limit(options),
         report: flag(options, "report"),
         groups: flag(options, "groups"),
+        output: output_form(options)?,
     })
 }

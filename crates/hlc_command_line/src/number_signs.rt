@@ -10,7 +10,7 @@ ghost use Rattle.hlc_command_line.specs.NumberOption.{IsSigned, IsSignedAmong};
 use clap::ArgMatches;
 
 // The options that take numbers.
-static ALL_NUMBERS: [&str; 11] = [
+static ALL_NUMBERS: [&str; 13] = [
     "nodes",
     "capacity",
     "limit",
@@ -22,6 +22,8 @@ static ALL_NUMBERS: [&str; 11] = [
     "rows",
     "packed",
     "tolerance",
+    "keep",
+    "every",
 ];
 
 // Those of `draw-log`, where events are named by their lines: the name of a file may begin with any sign.

@@ -253,6 +253,36 @@ pub(crate) const GROUPS: OptionRule = OptionRule {
     takes: Takes::Nothing,
 };
 
+pub(crate) const OUTPUT: OptionRule = OptionRule {
+    name: "output",
+    text: "How what is found is written: csv, json or text; csv if it is left out",
+    takes: Takes::One {
+        value: "FORM",
+        parser: ValueParser::String,
+        required: false,
+    },
+};
+
+pub(crate) const KEEP: OptionRule = OptionRule {
+    name: "keep",
+    text: "How many messages are remembered, the latest: 1000000 if it is left out",
+    takes: Takes::One {
+        value: "N",
+        parser: ValueParser::Unsigned(1, u32::MAX as u64),
+        required: false,
+    },
+};
+
+pub(crate) const EVERY: OptionRule = OptionRule {
+    name: "every",
+    text: "After how many events each the log is summed up, and not just at its end",
+    takes: Takes::One {
+        value: "N",
+        parser: ValueParser::Unsigned(1, u32::MAX as u64),
+        required: false,
+    },
+};
+
 pub(crate) const JSONL: OptionRule = OptionRule {
     name: "jsonl",
     text: "The log is lines of JSON: each object tells of an event",
@@ -261,7 +291,7 @@ pub(crate) const JSONL: OptionRule = OptionRule {
 
 pub(crate) const LENIENT: OptionRule = OptionRule {
     name: "lenient",
-    text: "Records that are bad are left out",
+    text: "Records that are bad, and events of a cycle, are left out",
     takes: Takes::Nothing,
 };
 

@@ -5,10 +5,10 @@ ghost use Rattle.hlc_command_line.specs.Subcommand.{app_of_subcommand};
 
 use crate::help;
 use crate::option_rule::{
-    ALL_FAULTS, AROUND_LINE, ASK, AUDIT_LIMIT, CAPACITY, DOTTED, EXPLAIN, EXPLAIN_LINE, FIELD,
-    FROM, FROM_LINE, GROUPS, JSONL, KIND, L_UNIT, LENIENT, LIMIT, NODES, ONLY_CHAIN, OptionRule,
-    PACKED, READING_UNIT, RECEIVES, REPORT, RESENT, ROWS, SEED, STEPS, STRICT, TO, TO_LINE,
-    TOLERANCE, UNSENT, VECTOR,
+    ALL_FAULTS, AROUND_LINE, ASK, AUDIT_LIMIT, CAPACITY, DOTTED, EVERY, EXPLAIN, EXPLAIN_LINE,
+    FIELD, FROM, FROM_LINE, GROUPS, JSONL, KEEP, KIND, L_UNIT, LENIENT, LIMIT, NODES, ONLY_CHAIN,
+    OUTPUT, OptionRule, PACKED, READING_UNIT, RECEIVES, REPORT, RESENT, ROWS, SEED, STEPS, STRICT,
+    TO, TO_LINE, TOLERANCE, UNSENT, VECTOR,
 };
 
 // A subcommand, its help and its options.
@@ -28,6 +28,7 @@ pub(crate) enum SubcommandName {
     Trace,
     Judge,
     Audit,
+    Watch,
     DrawLog,
     Vectors,
     Storm,
@@ -35,12 +36,13 @@ pub(crate) enum SubcommandName {
 }
 
 // The subcommands of `hlc`, in the order in which the help lists them.
-pub(crate) static SUBCOMMANDS: [SubcommandName; 9] = [
+pub(crate) static SUBCOMMANDS: [SubcommandName; 10] = [
     SubcommandName::Run,
     SubcommandName::Draw,
     SubcommandName::Trace,
     SubcommandName::Judge,
     SubcommandName::Audit,
+    SubcommandName::Watch,
     SubcommandName::DrawLog,
     SubcommandName::Vectors,
     SubcommandName::Storm,
@@ -55,7 +57,7 @@ static TRACE_OPTIONS: [OptionRule; 4] = [NODES, CAPACITY, LIMIT, VECTOR];
 
 static JUDGE_OPTIONS: [OptionRule; 0] = [];
 
-static AUDIT_OPTIONS: [OptionRule; 18] = [
+static AUDIT_OPTIONS: [OptionRule; 19] = [
     PACKED,
     DOTTED,
     TOLERANCE,
@@ -74,6 +76,24 @@ static AUDIT_OPTIONS: [OptionRule; 18] = [
     ASK,
     REPORT,
     GROUPS,
+    OUTPUT,
+];
+
+static WATCH_OPTIONS: [OptionRule; 14] = [
+    PACKED,
+    DOTTED,
+    TOLERANCE,
+    RECEIVES,
+    LENIENT,
+    JSONL,
+    FIELD,
+    KIND,
+    READING_UNIT,
+    L_UNIT,
+    STRICT,
+    AUDIT_LIMIT,
+    KEEP,
+    EVERY,
 ];
 
 static DRAW_LOG_OPTIONS: [OptionRule; 19] = [
@@ -152,6 +172,12 @@ pub(crate) fn subcommand_rule(name: SubcommandName) -> SubcommandRule
             about: help::AUDIT,
             after_help: help::LOGS,
             options: &AUDIT_OPTIONS,
+        },
+        SubcommandName::Watch => SubcommandRule {
+            name: "watch",
+            about: help::WATCH,
+            after_help: help::WATCHED_LOG,
+            options: &WATCH_OPTIONS,
         },
         SubcommandName::DrawLog => SubcommandRule {
             name: "draw-log",

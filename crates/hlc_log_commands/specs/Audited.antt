@@ -1,13 +1,18 @@
 -- What was audited.
-use Rattle.std.specs.Prelude.{◌≡◌, ◌==◌, ◌⊎◌, ⊤, Bool, ℕ, List, Option, None, Some, if◌then◌else◌, true, false}
+use Rattle.std.specs.Prelude.{◌≡◌, ◌==◌, ◌⊎◌, ⊤, Bool, ℕ, List, [], Option, None, Some, if◌then◌else◌, true, false}
+use Rattle.std.specs.Io.KnownBytes.{Appends}
 use Rattle.hlc_stamp.specs.declared.limits.TheConstants.{MAX_CAPACITY}
 use Rattle.hlc_log_audit.specs.Audit.{HasEventCount}
 use Rattle.hlc_log_audit.specs.declared.outcome.Outcome.{Outcome}
 use Rattle.hlc_log_audit.specs.declared.outcome.Outcome.TheVariants as outcome
 use Rattle.hlc_log_audit.specs.declared.rules.AuditRules.{AuditRules}
 use Rattle.hlc_log_groups.specs.GroupRows.{IsGroupedAudit}
+use Rattle.hlc_audit_text.specs.AuditText.{IsTextOf}
+use Rattle.hlc_log_json.specs.JsonRows.{IsJsonOf}
 use Rattle.hlc_log_text.specs.declared.question.LogQuestion.{LogQuestion}
 use Rattle.hlc_command_line.specs.declared.line_order.AuditOptions.{AuditOptions}
+use Rattle.hlc_command_line.specs.declared.line_order.OutputForm.{OutputForm}
+use Rattle.hlc_command_line.specs.declared.line_order.OutputForm.TheVariants as form
 use Rattle.hlc_csv.specs.declared.records_fault.RecordsFault.{RecordsFault}
 use Rattle.hlc_csv.specs.declared.records_fault.RecordsFault.TheVariants as records
 use Rattle.hlc_command_fault.specs.declared.command_fault.CommandFault.{CommandFault}
@@ -19,10 +24,32 @@ use Rattle.hlc_command_fault.specs.declared.no_events.NoEvents.TheVariants.{Log}
 abbrev pub rules_of : AuditOptions → AuditRules
 rules_of options = record { records = options.records; limit = options.limit; report = options.report }
 
+-- the rows that an audit leaves by these rules, with its causes in groups or not, were written as one object of JSON
+pub record IsJsonAudit (rules : AuditRules) (grouped : Bool) (asked : List LogQuestion) (input before after : Option (List ℕ)) (found : Outcome) : Type 0 where
+  pub rows : List ℕ
+  pub audited : IsGroupedAudit rules grouped asked input (Some []) (Some rows) found
+  pub json : List ℕ
+  pub is_json : IsJsonOf rows json
+  pub written : Appends before after json
+
+-- the rows that an audit leaves by these rules, with its report in any case and its causes in groups, were told as text
+pub record IsTextAudit (rules : AuditRules) (asked : List LogQuestion) (input before after : Option (List ℕ)) (found : Outcome) : Type 0 where
+  pub rows : List ℕ
+  pub audited : IsGroupedAudit (record rules { report = true }) true asked input (Some []) (Some rows) found
+  pub text : List ℕ
+  pub is_text : IsTextOf rows text
+  pub written : Appends before after text
+
+-- what an audit by these rules left, in a form of output
+abbrev pub IsAuditIn : OutputForm → AuditRules → (grouped : Bool) → List LogQuestion → (input before after : Option (List ℕ)) → Outcome → Type 0
+IsAuditIn form.Csv rules grouped asked input before after found = IsGroupedAudit rules grouped asked input before after found
+IsAuditIn form.Json rules grouped asked input before after found = IsJsonAudit rules grouped asked input before after found
+IsAuditIn form.Text rules grouped asked input before after found = IsTextAudit rules asked input before after found
+
 -- the log was audited by these options, with these questions asked beside it, and with this outcome; and then its causes were told in groups, if the
--- options want that
+-- options want that; all in the form of output that the options say
 abbrev pub IsAuditedBy : AuditOptions → List LogQuestion → (input before after : Option (List ℕ)) → Outcome → Type 0
-IsAuditedBy options asked input before after found = IsGroupedAudit (rules_of options) options.groups asked input before after found
+IsAuditedBy options asked input before after found = IsAuditIn options.output (rules_of options) options.groups asked input before after found
 
 -- the options let an outcome pass: the log isn't over the limit, and if they are strict, it isn't broken
 abbrev pub LetPass : AuditOptions → Outcome → Type 0

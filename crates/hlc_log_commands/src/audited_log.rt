@@ -6,15 +6,17 @@ ghost use Rattle.hlc_log_text.specs.ReadLog.{HasTooMany};
 ghost use Rattle.hlc_log_audit.specs.Audit.{TellsEvents};
 ghost use Rattle.hlc_log_groups.specs.GroupRows.{IsGroupedAudit};
 ghost use Rattle.hlc_command_fault.specs.Fault.{IsOfAnswer, IsOfInput};
-ghost use Rattle.hlc_log_commands.specs.Audited.{IsAuditPassed, IsAuditedBut, IsLogNote, audit_stop, log_note};
+ghost use Rattle.hlc_log_commands.specs.Audited.{IsAuditPassed, IsAuditedBut, IsAuditedBy, IsJsonAudit, IsLogNote, IsTextAudit, audit_stop, log_note};
 ghost use Rattle.hlc_log_commands.specs.Records.{IsLengthTold, records_in};
 
+use hlc_audit_text::write_text;
 use hlc_command_fault::{CommandFault, NoEvents};
-use hlc_command_line::AuditOptions;
+use hlc_command_line::{AuditOptions, OutputForm};
 use hlc_csv::RecordsFault;
 use hlc_json_lines::{JsonRules, LogInput};
 use hlc_log_audit::{AuditRules, Audited, Outcome};
 use hlc_log_groups::audit_with_groups;
+use hlc_log_json::write_json;
 use hlc_log_text::{LogQuestion, NameKey};
 use hlc_stamp::MAX_CAPACITY;
 use std::alloc::Global;
@@ -41,6 +43,99 @@ fn audit_records<I: Read + Drop, O: Write>(
     match LogInput::new(alloc, reader, json) {
         Ok(input) => audit_with_groups(alloc, input, writer, rules, grouped, asked, key),
         Err(_) => Err(RecordsFault::Memory),
+    }
+}
+
+// Audits a log so, and writes the rows as one object of JSON once it has all of them.
+fn audit_in_json<I: Read + Drop, O: Write>(
+    alloc: Global,
+    reader: I,
+    writer: &mut O,
+    rules: AuditRules,
+    grouped: bool,
+    asked: &[LogQuestion],
+    json: Option<JsonRules>,
+    key: NameKey,
+) -> Result<Audited, RecordsFault>
+    ensures audited { IfOk result (λ audited. IsJsonAudit rules grouped asked.now
+        (records_in json (I.remaining reader)) (O.contents writer.old) (O.contents writer.new) audited.outcome) }
+    ensures counted { IfOk result (TellsEvents rules.records MAX_CAPACITY (records_in json (I.remaining reader))) }
+    ensures read { IsErrOf result RecordsFault.Read → writer.new ≡ writer.old }
+    ensures too_long { IsErrOf result RecordsFault.TooLong → HasTooMany rules.records MAX_CAPACITY (records_in json (I.remaining reader)) }
+    ensures nothing { IsErrOf result RecordsFault.TooLong → writer.new ≡ writer.old }
+{
+    let mut rows = Vec::new(alloc);
+    match audit_records(alloc, reader, &mut rows, rules, grouped, asked, json, key) {
+        Ok(audited) => {
+            write_json(alloc, &rows, writer)?;
+            Ok(audited)
+        }
+        // A write into memory fails only where that is refused.
+        Err(RecordsFault::Write) => Err(RecordsFault::Memory),
+        Err(fault) => Err(fault),
+    }
+}
+
+// Audits a log so, with its report in any case and its causes in groups, and tells the rows as text once it has all of them.
+fn audit_in_text<I: Read + Drop, O: Write>(
+    alloc: Global,
+    reader: I,
+    writer: &mut O,
+    rules: AuditRules,
+    asked: &[LogQuestion],
+    json: Option<JsonRules>,
+    key: NameKey,
+) -> Result<Audited, RecordsFault>
+    ensures audited { IfOk result (λ audited. IsTextAudit rules asked.now
+        (records_in json (I.remaining reader)) (O.contents writer.old) (O.contents writer.new) audited.outcome) }
+    ensures counted { IfOk result (TellsEvents rules.records MAX_CAPACITY (records_in json (I.remaining reader))) }
+    ensures read { IsErrOf result RecordsFault.Read → writer.new ≡ writer.old }
+    ensures too_long { IsErrOf result RecordsFault.TooLong → HasTooMany rules.records MAX_CAPACITY (records_in json (I.remaining reader)) }
+    ensures nothing { IsErrOf result RecordsFault.TooLong → writer.new ≡ writer.old }
+{
+    let rules = AuditRules {
+        report: true,
+        ..rules
+    };
+    let mut rows = Vec::new(alloc);
+    match audit_records(alloc, reader, &mut rows, rules, true, asked, json, key) {
+        Ok(audited) => {
+            write_text(alloc, &rows, writer)?;
+            Ok(audited)
+        }
+        // A write into memory fails only where that is refused.
+        Err(RecordsFault::Write) => Err(RecordsFault::Memory),
+        Err(fault) => Err(fault),
+    }
+}
+
+// Audits a log by the options, and writes what is found in their form.
+fn audit_by<I: Read + Drop, O: Write>(
+    alloc: Global,
+    reader: I,
+    writer: &mut O,
+    options: AuditOptions,
+    asked: &[LogQuestion],
+    json: Option<JsonRules>,
+    key: NameKey,
+) -> Result<Audited, RecordsFault>
+    ensures audited { IfOk result (λ audited. IsAuditedBy options asked.now
+        (records_in json (I.remaining reader)) (O.contents writer.old) (O.contents writer.new) audited.outcome) }
+    ensures counted { IfOk result (TellsEvents options.records MAX_CAPACITY (records_in json (I.remaining reader))) }
+    ensures read { IsErrOf result RecordsFault.Read → writer.new ≡ writer.old }
+    ensures too_long { IsErrOf result RecordsFault.TooLong → HasTooMany options.records MAX_CAPACITY (records_in json (I.remaining reader)) }
+    ensures nothing { IsErrOf result RecordsFault.TooLong → writer.new ≡ writer.old }
+{
+    let rules = AuditRules {
+        records: options.records,
+        limit: options.limit,
+        report: options.report,
+    };
+    let grouped = options.groups;
+    match options.output {
+        OutputForm::Csv => audit_records(alloc, reader, writer, rules, grouped, asked, json, key),
+        OutputForm::Json => audit_in_json(alloc, reader, writer, rules, grouped, asked, json, key),
+        OutputForm::Text => audit_in_text(alloc, reader, writer, rules, asked, json, key),
     }
 }
 
@@ -72,7 +167,8 @@ fn note_on(events: u32, strict: bool) -> Result<Option<NoEvents>, CommandFault>
 /// Audits a log of another system, and answers what is asked beside it. The log is lines of JSON if there are rules for these. If the input is
 /// not a log, the log is broken or has no event and the options are strict, or it is over the limit, the rows that say so are written all the same.
 /// Of a log that is both, a strict audit says that it is broken. The note on the log is there if it has no event. If the options want that, the
-/// causes are told in groups, too, below all else.
+/// causes are told in groups, too, below all else. All this is written as rows, or as one object of JSON with these rows; or it is told as text, by the
+/// rows of a report with groups.
 pub fn audit_log<I: Read + Drop, O: Write>(
     alloc: Global,
     reader: I,
@@ -91,21 +187,7 @@ pub fn audit_log<I: Read + Drop, O: Write>(
     ensures unread { IfErr result (λ fault. IsOfInput fault → writer.new ≡ writer.old) }
     ensures too_long { IfErr result (IsLengthTold MAX_CAPACITY options.records (records_in json (I.remaining reader))) }
 {
-    let rules = AuditRules {
-        records: options.records,
-        limit: options.limit,
-        report: options.report,
-    };
-    let audited = match audit_records(
-        alloc,
-        reader,
-        writer,
-        rules,
-        options.groups,
-        asked,
-        json,
-        key,
-    ) {
+    let audited = match audit_by(alloc, reader, writer, options, asked, json, key) {
         Ok(audited) => audited,
         Err(fault) => return Err(audit_stop(fault)),
     };

@@ -13,4 +13,5 @@ pub mod SentNames
 pub mod StampsTold
 pub mod TakenItems
 pub mod FileMarks
+pub mod HeaderFacts
 pub mod ListedLocations

@@ -208,10 +208,10 @@ event_in_range rules from (Some w) fields event is =
     (head_is_in_range rules w from fields event.head made.0, made.1)
 
 -- what is told of a carried stamp leaves room above it, whatever the seq
-abbrev AreSmallExtras : Result Extras LogColumn → Type 0
+abbrev pub AreSmallExtras : Result Extras LogColumn → Type 0
 AreSmallExtras told = IfOk told (λ extras. IsSmallCarried extras.carried)
 
-abbrev IsSmallTold : Result (Option Pair) LogColumn → Type 0
+abbrev pub IsSmallTold : Result (Option Pair) LogColumn → Type 0
 IsSmallTold told = IfOk told IsSmallCarried
 
 if_small_told : (column : LogColumn) (stamp : Option Stamp) → IsSmallTold (if_small column stamp)
@@ -222,7 +222,7 @@ if_small_told column (Some stamp) = by_test (nat_lt stamp.c MAX_FLOOR_C) refl wh
   by_test true small = ltb-true stamp.c MAX_FLOOR_C small
   by_test false small = tt
 
-carried_for_small : (form : StampForm) (columns : Columns) (w : LogWord) (fields : Fields) → IsSmallTold (carried_for form columns w fields)
+pub carried_for_small : (form : StampForm) (columns : Columns) (w : LogWord) (fields : Fields) → IsSmallTold (carried_for form columns w fields)
 carried_for_small form columns word.Local fields = tt
 carried_for_small form columns word.Send fields = tt
 carried_for_small form columns word.Restart fields = tt
@@ -237,7 +237,7 @@ carried_for_small form columns word.Receive fields =
       by_test column true false stamp = tt
       by_test column false is_needed stamp = if_small_told column stamp
 
-extras_with_small : (carried : Result (Option Stamp) LogColumn) (seq : Option ℕ) → IsSmallTold carried → AreSmallExtras (extras_with carried seq)
+pub extras_with_small : (carried : Result (Option Stamp) LogColumn) (seq : Option ℕ) → IsSmallTold carried → AreSmallExtras (extras_with carried seq)
 extras_with_small (Err column) seq small = tt
 extras_with_small (Ok carried) None small = tt
 extras_with_small (Ok carried) (Some seq) small = small

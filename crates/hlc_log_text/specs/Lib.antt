@@ -8,6 +8,7 @@ pub mod Files
 pub mod Labels
 pub mod LineText
 pub mod LogColumn
+pub mod LogHeader
 pub mod LogItem
 pub mod LogRules
 pub mod LogText

@@ -17,8 +17,8 @@ impl FaultRule {
     ghost use Rattle.std.specs.Prelude.{◌≡◌};
     ghost use Rattle.hlc_log_text.specs.FaultRule.{leaves_out};
 
-    // Whether a record that is bad for this reason is left out, and the next one read.
-    pub(crate) fn leaves_out(self, why: BadLog) -> bool
+    /// Whether a record that is bad for this reason is left out, and the next one read.
+    pub fn leaves_out(self, why: BadLog) -> bool
         ensures { result ≡ leaves_out self why }
     {
         match self {

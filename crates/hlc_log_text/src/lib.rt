@@ -56,6 +56,9 @@
 //!   the first four and the last; where bad records are left out, it takes the last but one besides.
 //! - `Units` says which unit of time readings have and which one `l` has (`TimeUnit`), where they aren't the same, as in a log whose stamps are
 //!   uhlc's and whose readings are in milliseconds. A reading is then taken as so many whole units of `l`, and one at least.
+//! - `LogHeader` reads a log's records one by one, each by itself (`RecordItem`), with what has to be kept of those before it: whether the next may be
+//!   a header, and the columns. A `RecordHead` is what a record says of its event but for names, `Extras` what only a header's columns tell; the names
+//!   stand at `NODE_PLACE` and `message_place`. A `NameSet` gives names their numbers as they come.
 //! - `StampForm` says how stamps are written: a hybrid logical clock's stamp has two parts, `l` and `c`, and logs show them in two fields,
 //!   as one with a dot (CockroachDB: `1700000000123456789.0000000001`), or packed into one number of 64 bits, with `c` in the low ones
 //!   (uhlc, YugabyteDB and TiDB: 4, 12 and 18 of them). `field_count` says how many fields that takes, and `full` is the
@@ -113,6 +116,7 @@ pub mod laws;
 mod line_text;
 mod location;
 mod log_column;
+mod log_header;
 mod log_rules;
 mod log_text;
 mod log_word;
@@ -135,6 +139,7 @@ mod time_unit;
 mod units;
 
 pub use bad_log::{BadLine, BadLog, BadRecord};
+pub use extras::Extras;
 pub use fault::LogTextFault;
 pub use fault_rule::FaultRule;
 pub use file_mark::{FileMark, file_name};
@@ -145,15 +150,18 @@ pub use labels::Labels;
 pub use line_text::LineText;
 pub use location::Location;
 pub use log_column::LogColumn;
+pub use log_header::{LogHeader, RecordItem};
 pub use log_rules::LogRules;
 pub use log_text::LogText;
 pub use log_word::LogWord;
 pub use name_key::NameKey;
+pub use name_set::NameSet;
 pub use names::Names;
 pub use node_names::node_name;
 pub use question::{LogQuestion, location_of};
 pub use question_text::question_of;
 pub use read::read_log;
+pub use record_head::{NODE_PLACE, RecordHead, message_place};
 pub use record_syntax::RecordSyntax;
 pub use skipped::Skipped;
 pub use stamp_form::StampForm;

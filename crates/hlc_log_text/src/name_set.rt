@@ -10,11 +10,11 @@ use indexmap::IndexSet;
 use std::alloc::{AllocError, Global};
 use std::marker::Model;
 
-// Names that a log mentions while it is read, numbered from 0 in the order of their first mentions; seen as the list of them.
-//
-// A name of at most 22 bytes lies in the memory of the set, and a longer one takes an allocation.
+/// Names that a log mentions while it is read, numbered from 0 in the order of their first mentions; seen as the list of them.
+///
+/// A name of at most 22 bytes lies in the memory of the set, and a longer one takes an allocation.
 #[derive(Drop)]
-pub(crate) struct NameSet {
+pub struct NameSet {
     names: IndexSet<Bytes<'static>, NameKey>,
 }
 
@@ -30,8 +30,8 @@ impl Model for NameSet {
 }
 
 impl NameSet {
-    // No names, which are to be hashed by this key. It takes no memory.
-    pub(crate) fn new(alloc: Global, key: NameKey) -> NameSet
+    /// No names, which are to be hashed by this key. It takes no memory.
+    pub fn new(alloc: Global, key: NameKey) -> NameSet
         ensures { result ≡ [] }
     {
         NameSet {
@@ -39,8 +39,8 @@ impl NameSet {
         }
     }
 
-    // The number of a name, if it was mentioned. It takes no memory.
-    pub(crate) fn number(&self, name: &[u8]) -> Option<usize>
+    /// The number of a name, if it was mentioned. It takes no memory.
+    pub fn number(&self, name: &[u8]) -> Option<usize>
         ensures number { result ≡ position (bytes_eq name.now) self.now }
         ensures name { IfSome result (λ number. slice_get self.now number ≡ Some name.now) }
         ensures known { is_some result ≡ list_any (bytes_eq name.now) self.now }
@@ -49,23 +49,23 @@ impl NameSet {
         self.names.get_index_of(&Bytes::borrowed(name))
     }
 
-    // The name of a number, if there is one.
-    pub(crate) fn name(&self, number: usize) -> Option<&[u8]>
+    /// The name of a number, if there is one.
+    pub fn name(&self, number: usize) -> Option<&[u8]>
         ensures { option_map (λ name. name.now) result ≡ slice_get self.now number }
     {
         let name = self.names.get_index(number)?;
         Some(name)
     }
 
-    // How many names there are.
-    pub(crate) fn len(&self) -> usize
+    /// How many names there are.
+    pub fn len(&self) -> usize
         ensures { result ≡ length self.now }
     {
         self.names.len()
     }
 
-    // Mentions a name, and answers its number: that which it has, or the next if it is new. A known name takes no memory.
-    pub(crate) fn mention(&mut self, name: &[u8]) -> Result<usize, AllocError>
+    /// Mentions a name, and answers its number: that which it has, or the next if it is new. A known name takes no memory.
+    pub fn mention(&mut self, name: &[u8]) -> Result<usize, AllocError>
         ensures names { OnOk result (self.new ≡ with_name self.old name.now) }
         ensures number { IfOk result (λ number. slice_get self.new number ≡ Some name.now) }
         ensures known { IsTrue (list_any (bytes_eq name.now) self.old) → IsOk result }

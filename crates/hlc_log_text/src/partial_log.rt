@@ -78,14 +78,14 @@ struct RecordNames<'a> {
 }
 
 // Whether a record begins with the word of those that were left out.
-fn begins_as_skip(fields: &ByteRecord) -> bool
+pub(crate) fn begins_as_skip(fields: &ByteRecord) -> bool
     ensures { result ≡ begins_as_skip (fields_of fields.now) }
 {
     field(fields, 0) == b"skipped".as_slice()
 }
 
 // The name of the file that a record begins, if it begins one.
-fn begun_file(fields: &ByteRecord) -> Option<&[u8]>
+pub(crate) fn begun_file(fields: &ByteRecord) -> Option<&[u8]>
     ensures { option_map (λ name. name.now) result ≡ begun_file (fields_of fields.now) }
 {
     if fields.len() == 1 {

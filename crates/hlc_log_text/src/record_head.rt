@@ -19,8 +19,8 @@ use hlc_csv::{field, number};
 use hlc_log_line::MAX_NAME_LEN;
 use hlc_stamp::{MAX_READING, Stamp};
 
-// Where the name of a node stands in a record.
-pub(crate) const NODE_PLACE: usize = 1;
+/// Where the name of a node stands in a record whose fields are in their places.
+pub const NODE_PLACE: usize = 1;
 
 // Where a reading stands in a record.
 const READING_PLACE: usize = 2;
@@ -28,17 +28,19 @@ const READING_PLACE: usize = 2;
 // Where a stamp stands in a record.
 const STAMP_PLACE: usize = 3;
 
-// What a record of a log says, but for its names.
+/// What a record of a log says, but for its names.
 #[derive(Clone, Copy)]
-pub(crate) struct RecordHead {
-    pub(crate) word: LogWord,
-    pub(crate) reading: u64,
-    // Whether it tells that.
-    pub(crate) has_reading: bool,
-    // (0, 0) if it tells none.
-    pub(crate) stamp: Stamp,
-    // Whether it tells that.
-    pub(crate) has_stamp: bool,
+pub struct RecordHead {
+    /// The word with which it begins.
+    pub word: LogWord,
+    /// What the clock read, as `LogEvent` has it.
+    pub reading: u64,
+    /// Whether it tells that.
+    pub has_reading: bool,
+    /// The stamp: (0, 0) if it tells none.
+    pub stamp: Stamp,
+    /// Whether it tells that.
+    pub has_stamp: bool,
 }
 
 // What a record of a log with a header tells beside the fields that have places in a log without one.
@@ -119,9 +121,9 @@ pub(crate) fn may_be_name(field: &[u8]) -> bool
     !field.is_empty() && field.len() <= MAX_NAME_LEN
 }
 
-// Where the name of the message stands, if the record has one.
+/// Where the name of the message stands in a record whose fields are in their places, if it has one.
 #[inline]
-pub(crate) fn message_place(form: StampForm) -> usize
+pub fn message_place(form: StampForm) -> usize
     ensures { result ≡ message_place form }
 {
     STAMP_PLACE + form.field_count()

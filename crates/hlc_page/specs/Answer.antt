@@ -30,7 +30,10 @@ use Rattle.hlc_seeded.specs.Storm.{storm_of}
 use Rattle.hlc_text.specs.Steps.{printed_text}
 use Rattle.hlc_script_commands.specs.Answered.{IsScriptAnswered}
 use Rattle.hlc_script_commands.specs.Drawn.{IsChainDrawnWhole, IsChainDrawnWithout, IsDrawnWhole, IsDrawnWithout}
+use Rattle.hlc_script_commands.specs.Traced.{IsScriptTraced}
 use Rattle.hlc_log_commands.specs.DrawnLog.{IsLogDrawnBut, IsLogDrawnWhole}
+use Rattle.hlc_log_commands.specs.LogVectors.{HasVectors}
+use Rattle.hlc_log_commands.specs.Unopened.{IsToldBad}
 use Rattle.hlc_page.specs.declared.status.TheConstants.{PAGE_BAD_LOG, PAGE_BROKEN, PAGE_NO_EVENT, PAGE_OK, PAGE_OVER_LIMIT}
 
 -- a limit as a number: the greatest is none
@@ -94,6 +97,11 @@ IsChainPicture nodes capacity limit event script status answer =
     ((status ≡ PAGE_OK) × IsAnswer (IsChainDrawnWhole (settings_of nodes capacity limit) (record { 0 = event })) script answer)
     ⊎ ((status ≡ PAGE_NO_EVENT) × IsAnswer (IsChainDrawnWithout (settings_of nodes capacity limit) (record { 0 = event })) script answer)
 
+-- these bytes are the log of the history that the script leaves, with vectors or without
+abbrev pub IsTrace : (nodes capacity limit : ℕ) (vector : Bool) → (script : List ℕ) → (status : ℕ) → (answer : List ℕ) → Type 0
+IsTrace nodes capacity limit vector script status answer =
+    (status ≡ PAGE_OK) × IsAnswer (IsScriptTraced (settings_of nodes capacity limit) vector) script answer
+
 -- these bytes are what the program writes if it judges that trace
 abbrev pub IsVerdicts : (trace : List ℕ) → (status : ℕ) → (answer : List ℕ) → Type 0
 IsVerdicts trace status answer = (status ≡ PAGE_OK) × IsAnswer (IsJudged MAX_RECORDS) trace answer
@@ -101,6 +109,28 @@ IsVerdicts trace status answer = (status ≡ PAGE_OK) × IsAnswer (IsJudged MAX_
 -- these bytes are the script of that seed
 abbrev pub IsStorm : (nodes steps seed : ℕ) → (status : ℕ) → (answer : List ℕ) → Type 0
 IsStorm nodes steps seed status answer = (status ≡ PAGE_OK) × Appends (Some []) (Some answer) (printed_text (storm_of seed nodes steps))
+
+-- these are the rules to read a log of which these are the numbers
+pub record AreRecordsOf (form tolerance receives : ℕ) (unsent_local : Bool) (records : LogRules) : Type 0 where
+  pub syntax_is : records.syntax ≡ Csv
+  pub form_is : IsFormOf form records.form
+  pub units_are : records.units ≡ None
+  pub tolerance_is : records.tolerance ≡ tolerance
+  pub receives_are : records.receives ≡ receives_of receives
+  pub unsent_is : records.unsent_local ≡ unsent_local
+  pub resent_is : records.resent ≡ None
+  pub faults_are : records.faults ≡ First
+
+-- these bytes are the events of that log with their vectors, read by these rules, or tell why it is none, as the status does
+abbrev pub IsVectorsBy : LogRules → (log : List ℕ) → (status : ℕ) → (answer : List ℕ) → Type 0
+IsVectorsBy records log status answer =
+    ((status ≡ PAGE_OK) × IsAnswer (HasVectors records) log answer)
+    ⊎ ((status ≡ PAGE_BAD_LOG) × IsAnswer (IsToldBad MAX_CAPACITY records) log answer)
+
+-- so they are by the rules of these numbers
+abbrev pub IsVectorsAnswer : (form tolerance receives : ℕ) (unsent_local : Bool) → (log : List ℕ) → (status : ℕ) → (answer : List ℕ) → Type 0
+IsVectorsAnswer form tolerance receives unsent_local log status answer =
+    (records : LogRules) × AreRecordsOf form tolerance receives unsent_local records × IsVectorsBy records log status answer
 
 -- these are the rules of which these are the numbers
 pub record AreRulesOf (form tolerance receives : ℕ) (unsent_local : Bool) (limit : ℕ) (report : Bool) (rules : AuditRules) : Type 0 where

@@ -7,6 +7,7 @@
 //!
 //! - `hlc_page_run` answers a script, `hlc_page_draw` draws the history that it leaves, and `hlc_page_draw_chain` the chain of one event alone.
 //! - `hlc_page_judge` judges a trace, `hlc_page_audit` audits a log, and `hlc_page_draw_log` and `hlc_page_draw_log_around` draw parts of it.
+//! - `hlc_page_trace` writes the history that a script leaves as a log, and `hlc_page_vectors` the events of a log with their vectors.
 //! - `hlc_page_storm` prints a script that is drawn from a seed.
 //!
 //! No call keeps anything. `packaging/page` makes the module, and the page around it.
@@ -23,6 +24,8 @@ mod room;
 mod run;
 mod status;
 mod storm;
+mod trace;
+mod vectors;
 
 pub use audit::hlc_page_audit;
 pub use draw::hlc_page_draw;
@@ -36,3 +39,5 @@ pub use status::{
     PAGE_SETTINGS, PAGE_TOO_LONG, statuses_have_numbers,
 };
 pub use storm::hlc_page_storm;
+pub use trace::hlc_page_trace;
+pub use vectors::hlc_page_vectors;

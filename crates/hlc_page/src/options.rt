@@ -101,7 +101,12 @@ fn receives_of(number: u32) -> Receives
 }
 
 // How the records of a log are read by these numbers.
-fn records(stamp_form: u32, tolerance: u64, receives: u32, unsent_local: bool) -> LogRules
+pub(crate) fn records(
+    stamp_form: u32,
+    tolerance: u64,
+    receives: u32,
+    unsent_local: bool,
+) -> LogRules
     ensures syntax { result.syntax ≡ Csv }
     ensures form { IsFormOf stamp_form result.form }
     ensures units { result.units ≡ None }

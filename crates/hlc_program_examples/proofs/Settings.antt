@@ -39,6 +39,7 @@ is_run rows (order.Draw settings part) is = let name = is.0 in cc
 is_run rows (order.Trace settings vector) is = let name = is.0 in cc
 is_run rows order.Judge is = cc
 is_run rows (order.Audit options asked json) is = let name = is.0 in cc
+is_run rows (order.Watch options json) is = let name = is.0 in cc
 is_run rows (order.DrawLog options json) is = let name = is.0 in cc
 is_run rows (order.Vectors records json) is = let name = is.0 in cc
 is_run rows (order.Storm n k s) is = let name = is.0 in cc

@@ -24,7 +24,7 @@ impl Write for Unflushed {
 }
 
 // Lines, and what they read: each command writes something.
-static LINES: [(&str, &str); 12] = [
+static LINES: [(&str, &str); 13] = [
     ("hlc run --nodes 2 --capacity 16", "write,0,10,a,x\n"),
     ("hlc draw --nodes 2 --capacity 16", "write,0,10,a,x\n"),
     (
@@ -39,6 +39,7 @@ static LINES: [(&str, &str); 12] = [
     ("hlc judge", "local,0,10,10,0\n"),
     ("hlc audit", "local,a,10,10,0\n"),
     ("hlc audit --ask event,1", "local,a,10,10,0\n"),
+    ("hlc watch", "local,a,10,10,0\n"),
     ("hlc draw-log", "local,a,10,10,0\n"),
     ("hlc storm --nodes 2 --steps 3 --seed 1", ""),
     ("hlc threads --nodes 2 --steps 3 --seed 1", ""),

@@ -144,6 +144,7 @@ fn expect_texts_of_lines(rt: &impl Abort, alloc: Global) {
                 LineFault::Receives,
                 "--receives takes `tick`, `merge` or `merge-clock`",
             ),
+            (LineFault::Output, "--output takes `csv`, `json` or `text`"),
             (
                 LineFault::Question,
                 "--ask takes a question of a log: explain,LINE, check,LINE,LINE.., relation,LINE,LINE, influenced,LINE, drift,NODE, claimed,LINE or event,LINE",

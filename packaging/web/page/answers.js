@@ -11,8 +11,12 @@ function forget() {
   svgText = '';
   chosen = [];
   at('main').classList.remove('outdated');
-  for (const id of ['report-part', 'picture-part', 'answers-part']) at(id).hidden = true;
-  for (const id of ['tables', 'picture', 'answers', 'faults', 'told', 'pointed', 'line', 'found']) at(id).replaceChildren();
+  diagram = undefined;
+  [hits, hitLines, sought] = [[], new Set(), undefined];
+  resetFilters();
+  endCompare();
+  for (const id of ['report-part', 'picture-part', 'answers-part', 'conclusion']) at(id).hidden = true;
+  for (const id of ['tables', 'picture', 'answers', 'faults', 'told', 'pointed', 'line', 'found', 'conclusion', 'filtered']) at(id).replaceChildren();
   showHere();
 }
 
@@ -23,6 +27,9 @@ const eventAt = line => {
   const place = placeOf(told.eventLines, line);
   return place >= 0 && told.eventLines[place] === line ? place : -1;
 };
+
+// The line on which the record of an event begins.
+const lineOfEvent = event => (kind() === 'log' ? event - 1 : told.eventLines?.[event]);
 
 async function answer(first = '') {
   const it = optionsOrSay();
@@ -36,6 +43,7 @@ async function answer(first = '') {
   if (now() !== content) return say('The text has changed since: answer again.');
   told = found;
   told.text = at('text').value;
+  endCompare();
   at('main').classList.remove('outdated');
   if (told.around) lookAround(it.around = told.around);
   chosen = it.explain ? [Number(it.explain)] : [];
@@ -43,10 +51,13 @@ async function answer(first = '') {
   say(`${typeof first === 'string' && first ? `${first}\n` : ''}${notes()}${several(told.lines.length, 'record')} in ${spent < 10 ? spent.toFixed(1) : spent.toFixed(0)} ms.`);
   showAnswers(it);
   if (told.isEmpty) say(`hlc: no events\n${at('said').textContent}`);
-  showPicture(it);
+  showPicture();
   showLine(it);
   keepInAddress(it);
+  conclude(it);
+  if (moreAbout() !== '') await redraw();
   if (chosen.length) await writeChain();
+  if (it.kind === 'log') await writeSentences(told.tables.get('cause') ?? []);
 }
 
 function showAnswers(it) {

@@ -42,7 +42,7 @@ function render() {
   const above = linesAbove(), last = Math.min(count, Math.ceil(above + view().clientHeight / LINE_HEIGHT));
   const here = caretLine(), numbers = [], beside = [], lines = [];
   for (let line = Math.floor(above); line < last; line++) {
-    const text = answerAt(line), mark = line === here ? ' at' : '', number = content.numberOf(line);
+    const text = answerAt(line), mark = `${line === here ? ' at' : ''}${hitLines.has(line) ? ' hit' : ''}`, number = content.numberOf(line);
     numbers.push(placed(number ? String(number) : '', line, above, { className: mark }));
     const note = placed(text, line, above, { className: `${classOf(text)}${mark}`, title: text });
     note.addEventListener('click', () => goTo(line));

@@ -87,18 +87,20 @@ async function redraw() {
   if (!it || !told.lines || told.drawn === undefined) return;
   if (told.stale) return answer();
   const began = performance.now();
+  it.about = moreAbout();
   const drawn = await during(async () => {
     await sendText();
     return send('picture', it);
   });
   if (!drawn) return;
   told.drawn = drawn.status;
+  told.hasMore = it.about !== '';
   told.picture = decode(drawn.bytes);
   if (drawn.around) lookAround(it.around = drawn.around);
   chosen = it.explain === '' ? [] : [Number(it.explain)];
   say(`${notes()}Drawn in ${(performance.now() - began).toFixed(0)} ms.`);
   const { scrollLeft, scrollTop } = at('picture');
-  showPicture(it);
+  showPicture();
   at('picture').scrollTo(scrollLeft, scrollTop);
   showLine(it);
   keepInAddress(it);

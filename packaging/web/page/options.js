@@ -2,6 +2,7 @@
 const NUMBERS = {
   nodes: [2n, 64n], capacity: [1n, 16777216n], limit: [0n, 9223372036854775807n, true], tolerance: [0n, 9223372036854775807n, true],
   bits: [1n, 32n],
+  'other-limit': [0n, 9223372036854775807n, true],
   'storm-nodes': [2n, 64n], 'storm-steps': [1n, 16384n], 'storm-seed': [0n, 9223372036854775807n],
 };
 // Those that name an event: of a script by its number, and of a log by its line.

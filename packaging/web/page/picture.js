@@ -17,33 +17,56 @@ function pictureOf(text) {
   const sheet = new CSSStyleSheet();
   sheet.replaceSync(style);
   document.adoptedStyleSheets = [sheet];
-  return document.importNode(svg, true);
+  return document.adoptNode(svg);
 }
 
-function showPicture(it) {
+function showPicture() {
   at('picture-part').hidden = !told.picture && told.drawn !== NO_EVENT;
   at('told').textContent = '';
   svgText = told.picture ?? '';
+  showSvg();
+}
+
+// Shows the picture of the text that there is.
+function showSvg() {
+  diagram = undefined;
   at('picture').replaceChildren();
   pointAt(undefined);
-  if (!svgText) return;
+  if (!svgText) return showLegend();
   let svg;
   try {
     svg = pictureOf(svgText);
   } catch (fault) {
     return say(`The picture isn't shown: ${fault.message}.`);
   }
-  at('picture').replaceChildren(svg);
-  readPicture(svg);
   svg.setAttribute('role', 'group');
+  diagram = new Diagram(svg);
+  if (other) markLone(diagram, other.here, false);
+  // (a long picture is filtered before it is shown, since showing takes long)
+  tryFilters();
+  at('picture').replaceChildren(svg);
+  freshen();
+  showLegend();
+}
+
+// What hangs on which dots there are, and where.
+function freshen() {
+  readPicture(diagram.svg);
   zoom(scale);
+}
+
+// The picture as it is saved: as the program draws it, or what the filters leave of that.
+function pictureToSave() {
+  if (!diagram || diagram.isWhole) return svgText;
+  const svg = diagram.svg.cloneNode(true), [style] = /<style.*<\/style>/s.exec(svgText);
+  return new XMLSerializer().serializeToString(svg).replace('<desc>', `${style}<desc>`);
 }
 
 const heightOf = dot => dot.transform.baseVal[0].matrix.f;
 
 // Of the dots one is a stop of the Tab key, and arrows go from it to others.
 function readPicture(svg) {
-  dots = [...svg.querySelectorAll('g[id]')];
+  dots = [...svg.querySelectorAll('g[id]')].sort((one, other) => heightOf(one) - heightOf(other));
   dotAt = new Map(dots.map(dot => [heightOf(dot), dot]));
   [sentTo, sentFrom] = [new Map(), new Map()];
   for (const { points } of svg.querySelectorAll('polyline.m, polyline.p')) {
@@ -53,6 +76,7 @@ function readPicture(svg) {
     sentFrom.set(to, from);
   }
   for (const dot of dots) dot.setAttribute('role', 'button');
+  markHits();
   beTabStop(dots.find(dot => dot.classList.contains('k')) ?? dots[0]);
 }
 
@@ -77,6 +101,7 @@ function moveTo(dot) {
 function seek(event, draws) {
   for (const dot of at('picture').querySelectorAll('.sought')) dot.classList.remove('sought');
   if (event < 0 || !told.lines || told.stale) return;
+  reveal(event);
   const dot = at('picture').querySelector(`#e${event}`);
   if (!dot) return draws ? drawAround(event) : undefined;
   dot.classList.add('sought');
@@ -93,9 +118,11 @@ function zoom(factor, x = 0, y = 0) {
   const before = scale, frame = at('picture'), svg = frame.querySelector('svg');
   scale = Math.min(8, Math.max(0.05, factor));
   if (!svg) return;
-  const [, , width, height] = boxOf(svg), [left, top] = [frame.scrollLeft + x, frame.scrollTop + y];
-  svg.setAttribute('width', width * scale);
-  svg.setAttribute('height', height * scale);
+  const [left, top] = [frame.scrollLeft + x, frame.scrollTop + y];
+  for (const each of document.querySelectorAll('#picture svg, #other svg')) {
+    const [, , width, height] = boxOf(each);
+    setAll(each, { width: width * scale, height: height * scale });
+  }
   if (before !== scale) frame.scrollTo((left * scale) / before - x, (top * scale) / before - y);
 }
 
@@ -104,6 +131,14 @@ function fit() {
   if (!svg) return;
   const [, , width, height] = boxOf(svg), frame = at('picture');
   zoom(Math.min(frame.clientWidth / width, Math.max(frame.clientHeight, window.innerHeight * 0.5) / height));
+}
+
+// Makes the picture as large as the frame is wide, by where its texts end.
+function fitWidth() {
+  const svg = at('picture').querySelector('svg');
+  if (!svg) return;
+  const ends = [...svg.querySelectorAll(':scope > text:not(.h)')].map(text => Number(text.getAttribute('x')) + text.getComputedTextLength());
+  zoom(Math.min(2.4, Math.max(0.6, at('picture').clientWidth / (Math.max(300, ...ends) + 16))));
 }
 
 const dotOf = event => event.target.closest?.('#picture g[id]');

@@ -15,7 +15,7 @@ function listenToMouse(picture) {
     if (moved) picture.scrollTo(pan.left - x, pan.top - y);
   });
   for (const name of ['pointerup', 'pointercancel']) addEventListener(name, () => { pan = undefined; picture.classList.remove('panning'); });
-  picture.addEventListener('click', event => { const dot = dotOf(event); if (dot && !moved) choose(numberOf(dot)); });
+  picture.addEventListener('click', event => { const dot = dotOf(event); if (dot && !moved) press(dot); });
   picture.addEventListener('wheel', event => {
     if (!event.ctrlKey) return;
     event.preventDefault();
@@ -40,13 +40,16 @@ function listenToFingers(picture) {
   for (const name of ['touchend', 'touchcancel']) picture.addEventListener(name, () => { pinch = undefined; });
 }
 
+// A dot that is clicked on: its event is chosen, or its events are unfolded.
+const press = dot => { if (!isStepping()) (dot.matches('.fold') ? unfold : choose)(numberOf(dot)); };
+
 function listenToKeys(picture) {
   picture.addEventListener('keydown', event => {
     const dot = dotOf(event);
     if (event.ctrlKey || event.metaKey || event.altKey) return;
     if (dot && (event.key === 'Enter' || event.key === ' ')) {
       event.preventDefault();
-      choose(numberOf(dot));
+      press(dot);
     } else if (dot && MOVES.includes(event.key)) {
       event.preventDefault();
       const next = dotBy(event.key, dot);

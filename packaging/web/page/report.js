@@ -4,7 +4,7 @@
 const REPORT = {
   bad: ['No log', ['line', 'why', 'field'], [0]],
   count: ['Verdicts', ['verdict', 'stamps'], []],
-  cause: ['Where the clock rule was broken', ['line', 'node', 'how', '', ''], [0]],
+  cause: ['Where the clock rule was broken', ['line', 'node', 'how', 'than', '', 'in words'], [0]],
   node: ['Nodes', ['node', 'events', 'ahead', 'line', 'origin'], [3, 4]],
   messages: ['Messages', ['sent', 'received', 'repeated', 'open'], []],
   skew: ['Skews between clocks', ['from', 'to', 'ahead', 'send', 'receive'], [3, 4]],
@@ -58,11 +58,12 @@ function rowOf(word, fields) {
   }
   if (single < fields.length) row.append(listCell(word, fields, single));
   while (row.cells.length < heads.length) row.insertCell();
+  if (word === 'cause') row.lastChild.textContent = told.sentences?.get(fields) ?? '';
   return row;
 }
 
 function tableOf(word, rows) {
-  const [name, heads] = REPORT[word], table = document.createElement('table'), top = table.createTHead().insertRow();
+  const [name, heads] = REPORT[word], table = Object.assign(document.createElement('table'), { id: `table-${word}` }), top = table.createTHead().insertRow();
   table.append(element('caption', rows.length > FIRST_SHOWN ? `${name}: ${counted(rows.length)}` : name));
   for (const head of heads) top.append(element('th', head, { scope: 'col' }));
   const foot = document.createElement('tr');
@@ -93,4 +94,5 @@ function showReport() {
   // (of a log without events only its messages are counted)
   told.isEmpty = tables.size === 1 && tables.has('messages');
   at('tables').replaceChildren(...[...tables].map(([word, rows]) => tableOf(word, rows)));
+  told.tables = tables;
 }

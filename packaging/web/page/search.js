@@ -1,5 +1,10 @@
 // The search for records.
-let hits = [], hit = -1, sought;
+let hits = [], hitLines = new Set(), hit = -1, sought;
+
+// Marks the events of all records that were found, those that are drawn.
+function markHits() {
+  for (const row of diagram?.rows ?? []) row.dot.classList.toggle('hit', hitLines.has(lineOfEvent(row.event)));
+}
 
 async function find() {
   const words = at('search').value, content = now();
@@ -10,6 +15,9 @@ async function find() {
       await sendText();
       return send('search', words);
     }))?.lines ?? [];
+    hitLines = new Set(hits);
+    markHits();
+    render();
   }
   const found = text => { at('found').textContent = text; announce(text); };
   if (!hits.length) return found('Nothing found.');

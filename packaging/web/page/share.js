@@ -48,8 +48,22 @@ function fragmentOf(it) {
     if (it.receives !== 'tick') parts.set('receives', it.receives);
     for (const name of ['unsent', 'report']) if (it[name]) parts.set(name, '1');
   }
+  if (it.kind !== 'trace') filtersInto(parts);
   return parts;
 }
+
+// The history that a script leaves as a log, and the events of a log or of that history with their vectors, as other tools read them.
+async function saveEvents(command, name, vector) {
+  const it = optionsOrSay();
+  if (!it) return;
+  const found = await during(() => send(command, { ...it, vector, bytes: now().bytes }));
+  if (!found) return;
+  if (found.status) return say(`Nothing is saved. ${WORDS[found.status]}`);
+  save(name, [found.bytes]);
+}
+
+const saveLog = () => saveEvents('trace', 'history.log', false);
+const saveVectors = () => (kind() === 'log' ? saveEvents('vectors', 'log.vectors', true) : saveEvents('trace', 'history.vectors', true));
 
 let ownFragment = '';
 
@@ -81,6 +95,7 @@ function takeFromAddress() {
   if (!['pair', 'packed', 'dotted'].includes(given.stamps)) delete given.stamps;
   if (!['merge', 'merge-clock'].includes(given.receives)) delete given.receives;
   setOptions(given);
+  takeFilters(parts);
   if (!parts.has('text') && example) exampleName = example.name;
   if (text) answer();
   else say('The address has options and no text: paste one, or open files.');

@@ -18,13 +18,18 @@ function listen() {
   for (const id of ['from', 'to']) at(id).addEventListener('input', () => { at('around').value = ''; });
   at('only').addEventListener('change', redraw);
   listenToFiles();
-  at('save-svg').addEventListener('click', () => save(KINDS[kind()].picture, [svgText], 'image/svg+xml'));
+  at('save-svg').addEventListener('click', () => save(KINDS[kind()].picture, [pictureToSave()], 'image/svg+xml'));
+  at('save-log').addEventListener('click', saveLog);
+  at('save-vectors').addEventListener('click', saveVectors);
   at('save-answers').addEventListener('click', () => save('answers.csv', [told.answers ?? '']));
   at('save-text').addEventListener('click', () => save(fileName(), [now().bytes]));
   at('copy-line').addEventListener('click', () => { const it = optionsOrSay(); if (it) { showLine(it); copy(commandText(it), 'The command line'); } });
   at('copy-link').addEventListener('click', copyLink);
   listenToText();
   listenToPicture();
+  listenToFilters();
+  listenToSteps();
+  listenToCompare();
   addEventListener('hashchange', takeFromAddress);
   addEventListener('resize', render);
 }
@@ -59,7 +64,7 @@ async function compiled() {
 function trouble(text) {
   at('trouble').hidden = false;
   at('trouble').textContent = text;
-  for (const id of ['answer', 'storm', 'draw', 'find']) at(id).disabled = true;
+  for (const id of ['answer', 'storm', 'draw', 'find', 'play']) at(id).disabled = true;
 }
 
 async function begin() {

@@ -1,7 +1,7 @@
 // The module, and calls of its exports.
 let exports;
 
-const NO_EVENT = 0xffffffff, NO_LIMIT = 0xffffffffffffffffn, ROWS = 40;
+const NO_EVENT = 0xffffffff, NO_LIMIT = 0xffffffffffffffffn, ROWS = 40, MORE_ROWS = 20000;
 const memory = () => new Uint8Array(exports.memory.buffer);
 
 class NoMemory extends Error {}
@@ -55,15 +55,16 @@ const RECEIVES = ['tick', 'merge', 'merge-clock'];
 const reading = it => [it.form, BigInt(it.tolerance || 0), Math.max(RECEIVES.indexOf(it.receives), 0), it.unsent ? 1 : 0];
 
 // Of a script the rows about an event are those of the events about it.
-const eventsAround = it => (isGiven(it.around) ? { ...it, from: Math.max(0, it.around - ROWS / 2 + 1), to: Number(it.around) + ROWS / 2 } : it);
+const eventsAround = (it, about, rows) => (isGiven(about) ? { ...it, from: Math.max(0, about - rows / 2 + 1), to: Number(about) + rows / 2 } : it);
 
 function draw(bytes, it) {
   if (it.only) return call('hlc_page_draw_chain', bytes, [...settings(it), event(it.explain)]);
-  return call('hlc_page_draw', bytes, [...settings(it), ...view(eventsAround(it))]);
+  return call('hlc_page_draw', bytes, [...settings(it), ...view(isGiven(it.about) ? eventsAround(it, it.about, MORE_ROWS) : eventsAround(it, it.around, ROWS))]);
 }
 
 function drawLog(bytes, it) {
   if (it.only) return call('hlc_page_draw_log_around', bytes, [...reading(it), NO_EVENT, event(it.explain), 0]);
+  if (isGiven(it.about)) return call('hlc_page_draw_log_around', bytes, [...reading(it), event(it.explain), event(it.about), MORE_ROWS]);
   if (isGiven(it.around)) return call('hlc_page_draw_log_around', bytes, [...reading(it), event(it.explain), event(it.around), it.rows ?? ROWS]);
   return call('hlc_page_draw_log', bytes, [...reading(it), ...view(it)]);
 }
@@ -72,8 +73,10 @@ function drawLog(bytes, it) {
 const commands = {
   run: (bytes, it) => call('hlc_page_run', bytes, settings(it)),
   draw,
+  trace: (bytes, it) => call('hlc_page_trace', bytes, [...settings(it), it.vector ? 1 : 0]),
   judge: bytes => call('hlc_page_judge', bytes, []),
   audit: (bytes, it) => call('hlc_page_audit', bytes, [...reading(it), limit(it), it.report ? 1 : 0]),
   'draw-log': drawLog,
+  vectors: (bytes, it) => call('hlc_page_vectors', bytes, reading(it)),
   storm: (_, it) => call('hlc_page_storm', null, [it.nodes, it.steps, BigInt(it.seed)]),
 };

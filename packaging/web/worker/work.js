@@ -8,20 +8,20 @@ const KINDS = {
   log: { answer: commands.audit, stage: 'auditing', done: [OK, BROKEN, OVER_LIMIT], draw: commands['draw-log'] },
 };
 
-// A text and a question after it, on a line of its own.
-function withTail(tail) {
-  const ended = !text.length || text[text.length - 1] === 10;
+// A text and questions after it, on lines of their own.
+function withTail(bytes, tail) {
+  const ended = !bytes.length || bytes[bytes.length - 1] === 10;
   const more = new TextEncoder().encode((ended ? '' : '\n') + tail.join('\n') + '\n');
-  const all = new Uint8Array(text.length + more.length);
-  all.set(text);
-  all.set(more, text.length);
+  const all = new Uint8Array(bytes.length + more.length);
+  all.set(bytes);
+  all.set(more, bytes.length);
   return all;
 }
 
 // The answers to questions that are asked after a script or a log: the last rows.
 function ask(it) {
   const { answer, done } = KINDS[it.kind];
-  const { status, bytes } = answer(withTail(it.questions), it);
+  const { status, bytes } = answer(withTail(text, it.questions), it);
   const groups = groupsBy(it.kind, bytes, recordsOf(bytes)), count = groups.length - 1;
   const last = it.questions.map((_, place) => fieldsOf(bytes.subarray(groups[count - it.questions.length + place], groups[count - it.questions.length + place + 1] - 1)));
   return { status, rows: done.includes(status) && count >= it.questions.length ? last : [] };
@@ -32,7 +32,7 @@ const hasDot = (picture, event) => decode(picture).includes(` id="e${event}"`);
 // The picture of a text: if it doesn't say which events are to be drawn, those about the one to explain, where that isn't among the first.
 function drawn(bytes, it) {
   const { draw } = KINDS[it.kind], picture = draw(bytes, it);
-  const isAsked = it.only || [it.from, it.to, it.around].some(isGiven);
+  const isAsked = it.only || isGiven(it.about) || [it.from, it.to, it.around].some(isGiven);
   if (isAsked || picture.status !== OK || !isGiven(it.explain) || hasDot(picture.bytes, it.explain)) return picture;
   return { ...draw(bytes, { ...it, around: it.explain }), around: Number(it.explain) };
 }
@@ -48,6 +48,7 @@ function work(it, stage) {
   stage('finding the answers');
   const groups = groupsBy(it.kind, answers, recordsOf(answers));
   const told = { status, answers, groups, lines: records.lines, ...eventsOf(answers, groups, records.lines), questions: it.kind === 'log' ? questionsOf(bytes, records) : [] };
+  if (it.kind === 'script') told.steps = stepsOf(bytes, records);
   if (!kind.draw || !kind.done.includes(status)) return told;
   stage('drawing');
   const picture = drawn(bytes, it);
@@ -63,6 +64,8 @@ onmessage = async ({ data: { id, kind, it } }) => {
     else if (kind === 'work') told = work(it, stage);
     else if (kind === 'search') told = search(it);
     else if (kind === 'ask') told = ask(it);
+    else if (kind === 'step') told = step(it);
+    else if (kind === 'events') told = events(it);
     else if (kind === 'picture') told = drawn(text, it);
     else told = commands[kind](it.bytes ?? text, it);
     postMessage({ id, told });

@@ -55,6 +55,22 @@ pub returns-in-Audit-clause-unread : goal.returns-in-Audit-clause-unread
 returns-in-Audit-clause-unread g c =
     if_err c.audit_log.result _ _ (λ fault unread input reads. unread input) c.audit_log.ensures.unread
 
+pub returns-in-Watch-clause-done : goal.returns-in-Watch-clause-done
+returns-in-Watch-clause-done g c =
+    rw c.in-Watch.is c.watch_log.ensures.done
+
+pub returns-in-Watch-clause-noted : goal.returns-in-Watch-clause-noted
+returns-in-Watch-clause-noted g c =
+    rw c.in-Watch.is c.watch_log.ensures.noted
+
+pub returns-in-Watch-clause-told : goal.returns-in-Watch-clause-told
+returns-in-Watch-clause-told g c =
+    rw c.in-Watch.is c.watch_log.ensures.told
+
+pub returns-in-Watch-clause-unread : goal.returns-in-Watch-clause-unread
+returns-in-Watch-clause-unread g c =
+    if_err c.watch_log.result _ _ (λ fault told input reads. absurd (rw c.in-Watch.is at reads)) c.watch_log.ensures.told
+
 pub returns-in-DrawLog-clause-done : goal.returns-in-DrawLog-clause-done
 returns-in-DrawLog-clause-done g c =
     rw c.in-DrawLog.is (ok_unnoted c.draw_log.result _ _ c.unnoted-in-DrawLog.ensures c.draw_log.ensures.done)

@@ -27,6 +27,10 @@ pub audit_order-requires : goal.audit_order-requires
 audit_order-requires c =
     let has = subst (λ (n : Text). HasOptions n (rows_of (found_of c.args.options.now))) c.in-audit.is c.requires in has
 
+pub watch_order-requires : goal.watch_order-requires
+watch_order-requires c =
+    let has = subst (λ (n : Text). HasOptions n (rows_of (found_of c.args.options.now))) c.in-watch.is c.requires in has
+
 pub draw_log_order-requires : goal.draw_log_order-requires
 draw_log_order-requires c =
     let has = subst (λ (n : Text). HasOptions n (rows_of (found_of c.args.options.now))) c.in-text.is c.requires in has
@@ -65,6 +69,16 @@ returns-in-text-clause-mistaken c =
     subst (λ (n : Text). IfErr c.draw_log_order.result (UnlessMemory (IsMistakeOf n (rows_of (found_of c.args.options.now))))) (sym c.in-text.is)
     c.draw_log_order.ensures.mistaken
 
+pub returns-in-watch-clause-found : goal.returns-in-watch-clause-found
+returns-in-watch-clause-found c =
+    subst (λ (n : Text). IfOk c.watch_order.result (IsOrderOf n (rows_of (found_of c.args.options.now)))) (sym c.in-watch.is)
+    c.watch_order.ensures.found
+
+pub returns-in-watch-clause-mistaken : goal.returns-in-watch-clause-mistaken
+returns-in-watch-clause-mistaken c =
+    subst (λ (n : Text). IfErr c.watch_order.result (UnlessMemory (IsMistakeOf n (rows_of (found_of c.args.options.now))))) (sym c.in-watch.is)
+    c.watch_order.ensures.mistaken
+
 pub returns-in-vectors-clause-found : goal.returns-in-vectors-clause-found
 returns-in-vectors-clause-found c =
     subst (λ (n : Text). IfOk c.vectors_order.result (IsOrderOf n (rows_of (found_of c.args.options.now)))) (sym c.in-vectors.is)
@@ -101,4 +115,4 @@ pub unreachable-requires : goal.unreachable-requires
 unreachable-requires c =
     let d = c.in_default in
     no_other _ subcommands c.args.name.now c.requires
-    (d.not-run, (d.not-draw, (d.not-trace, (d.not-judge, (d.not-audit, (d.not-text, (d.not-vectors, (d.not-storm, (d.not-threads, tt)))))))))
+    (d.not-run, (d.not-draw, (d.not-trace, (d.not-judge, (d.not-audit, (d.not-watch, (d.not-text, (d.not-vectors, (d.not-storm, (d.not-threads, tt))))))))))

@@ -16,6 +16,9 @@ returns-in-Judge c = rw c.in-Judge.is refl
 pub returns-in-Audit : goal.returns-in-Audit
 returns-in-Audit c = rw c.in-Audit.is refl
 
+pub returns-in-Watch : goal.returns-in-Watch
+returns-in-Watch c = rw c.in-Watch.is refl
+
 pub returns-in-DrawLog : goal.returns-in-DrawLog
 returns-in-DrawLog c = rw c.in-DrawLog.is refl
 

@@ -45,7 +45,7 @@ returns-in-Broken-false-clause-told g c =
     let counted = c.in-Ok.ensures.counted (not_bad c.args.options found passes) in
     if_err c.note_on.result (λ fault empty answer.
     subst (λ (stop : CommandFault). IsAuditedBut stop c.args.options c.args.asked.now (records_in c.args.json (g.I.Read.remaining c.args.reader))
-    (g.O.Write.contents c.args.writer.now) (g.O.Write.contents c.audit_records.new.writer)) (sym empty.0)
+    (g.O.Write.contents c.args.writer.now) (g.O.Write.contents c.audit_by.new.writer)) (sym empty.0)
     (empty.1, (c.in-Ok.audited.events, counted, sym empty.2), (found, passes, c.in-Ok.ensures.audited))) c.note_on.ensures.empty
 
 -- that it has no events is no fault of the input

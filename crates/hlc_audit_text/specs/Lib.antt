@@ -1,0 +1,4 @@
+pub mod AuditText
+pub mod TextPiece
+pub mod TextSection
+pub mod Told

@@ -1,0 +1,4 @@
+pub mod JsonColumn
+pub mod JsonMember
+pub mod JsonRows
+pub mod JsonText

@@ -1,0 +1,6 @@
+pub mod EventsKept
+pub mod EventsTaken
+pub mod NodeNumbers
+pub mod Records
+pub mod RowsAdded
+pub mod SoFar

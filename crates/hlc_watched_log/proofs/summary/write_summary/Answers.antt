@@ -1,0 +1,12 @@
+use Rattle.std.proofs.lemmas.Result.{on_ok_weaker}
+use Rattle.hlc_watched_log.specs.Summary.{count_rows, node_rows}
+use Rattle.hlc_watched_log.proofs.RowsAdded.{adds_joined, appends-from_none}
+use Rattle.hlc_watched_log.proofs.summary.write_summary.Goals as goal
+
+pub returns : goal.returns
+returns g c =
+    let nodes = node_rows c.args.nodes.now c.args.tallies.now in
+    let counts = count_rows c.args.counts c.args.waiting c.args.forgotten in
+    on_ok_weaker c.finish.result (λ sent.
+    appends-from_none _ _ _ _ _ (adds_joined _ _ _ _ _ _ nodes counts (rw c.new-rows.ensures at c.in_ok-push_nodes.ensures) c.in_ok-push_counts.ensures) sent)
+    c.finish.ensures

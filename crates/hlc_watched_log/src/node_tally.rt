@@ -1,0 +1,81 @@
+// What is counted of a node.
+
+ghost use Rattle.std.specs.Prelude.{◌≡◌};
+ghost use Rattle.hlc_watched_log.specs.Summary.{claimed_ahead, further, furthest_with, no_tally, one_more, with_event};
+
+use hlc_log::LogEvent;
+
+// A claimed `l` that is above its reading.
+#[derive(Clone, Copy)]
+pub(crate) struct FarClaim {
+    // By how much.
+    pub(crate) ahead: u64,
+    pub(crate) line: u32,
+}
+
+// How many events a node has, or the greatest number, if there are more; and the first of the claims that are furthest above their readings.
+#[derive(Clone, Copy)]
+pub(crate) struct NodeTally {
+    pub(crate) events: u64,
+    pub(crate) furthest: Option<FarClaim>,
+}
+
+// How far the `l` that an event claims is above its reading, if the log tells that.
+pub(crate) fn claimed_ahead(event: &LogEvent) -> Option<u64>
+    ensures { result ≡ claimed_ahead event.now }
+{
+    if event.has_reading {
+        Some(event.stamp.l.saturating_sub(event.reading))
+    } else {
+        None
+    }
+}
+
+// One more, or the greatest number.
+pub(crate) fn one_more(count: u64) -> u64
+    ensures { result ≡ one_more count }
+{
+    count.saturating_add(1)
+}
+
+// Of two claims the one that is further above its reading, or the first if none is.
+fn further(furthest: Option<FarClaim>, claim: FarClaim) -> FarClaim
+    ensures { result ≡ further furthest claim }
+{
+    match furthest {
+        Some(far) if claim.ahead <= far.ahead => far,
+        _ => claim,
+    }
+}
+
+// The furthest claim, once an event on a line claims to be so far ahead.
+fn furthest_with(furthest: Option<FarClaim>, line: u32, ahead: Option<u64>) -> Option<FarClaim>
+    ensures { result ≡ furthest_with furthest line ahead }
+{
+    match ahead {
+        None => furthest,
+        Some(ahead) => Some(further(furthest, FarClaim { ahead, line })),
+    }
+}
+
+impl NodeTally {
+    // Nothing.
+    pub(crate) fn new() -> NodeTally
+        ensures { result ≡ no_tally }
+    {
+        NodeTally {
+            events: 0,
+            furthest: None,
+        }
+    }
+
+    // With an event more.
+    pub(crate) fn with_event(self, event: &LogEvent) -> NodeTally
+        ensures { result ≡ with_event self event.now }
+    {
+        NodeTally {
+            events: one_more(self.events),
+            furthest: furthest_with(self.furthest, event.line, claimed_ahead(event)),
+        }
+    }
+}

@@ -1,0 +1,334 @@
+// What is kept of a log that is watched.
+
+ghost use Rattle.std.specs.Prelude.{◌≡◌, ◌<◌, OnOk, length};
+ghost use Rattle.std.specs.Io.KnownBytes.{Appends};
+ghost use Rattle.std.specs.List.{list_any};
+ghost use Rattle.hlc_csv.specs.Rows.{text_of};
+ghost use Rattle.hlc_log.specs.declared.log_event.TheConstants.{MAX_LOG_NODES};
+ghost use Rattle.hlc_log_text.specs.Names.{with_name};
+ghost use Rattle.hlc_watched_log.specs.CauseRows.{is_broken};
+ghost use Rattle.hlc_watched_log.specs.Numbers.{node_number};
+ghost use Rattle.hlc_watched_log.specs.Summary.{with_node};
+ghost use Rattle.hlc_watched_log.specs.Taken.{complete_in};
+
+use crate::cause_row::is_broken;
+use crate::event_rows::{is_over, write_bad, write_event};
+use crate::named_event::{message_name, unwatched};
+use crate::node_tally::{NodeTally, claimed_ahead, one_more};
+use crate::numbers::{MessageNames, no_messages, node_number, number_kind};
+use crate::summary::write_summary;
+use crate::watch_counts::WatchCounts;
+use crate::watch_rules::WatchRules;
+use csv::ByteRecord;
+use hlc_csv::{OutputFault, field};
+use hlc_log::LogEvent;
+use hlc_log_text::{BadLog, Extras, NODE_PLACE, NameKey, NameSet, RecordHead, RecordItem};
+use hlc_stamp::NodeId;
+use hlc_watch::{Complete, Records, RuledEvent, Watch};
+use std::alloc::{AllocError, Global};
+use std::io::Write;
+use std::marker::Model;
+
+// The names of nodes, what is counted of each, the names of the latest messages, how many events came, and what is kept of these.
+#[derive(Drop)]
+pub(crate) struct LogWatch {
+    nodes: NameSet,
+    tallies: Vec<NodeTally>,
+    messages: MessageNames,
+    events: u32,
+    watch: Watch,
+    counts: WatchCounts,
+    alloc: Global,
+}
+
+impl Model for LogWatch {
+    ghost use Rattle.hlc_watched_log.specs.Watched.{WatchedLog};
+
+    ghost Value = { WatchedLog };
+
+    ghost view = { λ w. record {
+      nodes = w.nodes;
+      tallies = w.tallies.items;
+      messages = w.messages.entries;
+      keep = w.messages.cap;
+      events = w.events;
+      kept = w.watch;
+      counts = w.counts;
+    } };
+}
+
+// Adds the name of a node of this number, if it is new.
+fn add_node(
+    nodes: &mut NameSet,
+    tallies: &mut Vec<NodeTally>,
+    name: &[u8],
+    number: usize,
+) -> Result<(), AllocError>
+    requires number { number ≡ node_number nodes.old name.now }
+    requires one_each { length tallies.old.items ≡ length nodes.old }
+    ensures names { OnOk result (nodes.new ≡ with_name nodes.old name.now) }
+    ensures tallies { OnOk result (tallies.new.items ≡ with_node tallies.old.items number) }
+    ensures one_each { OnOk result (length tallies.new.items ≡ length nodes.new) }
+    ensures within { OnOk result (number < length tallies.new.items) }
+{
+    if number == tallies.len() {
+        nodes.mention(name)?;
+        tallies.push(NodeTally::new())?;
+    }
+    Ok(())
+}
+
+// Whether one of the events that are complete breaks a rule that isn't about least stamps.
+fn is_any_broken(full: u32, complete: &Complete) -> bool
+    ensures { result ≡ list_any (is_broken full) (complete_in complete.now) }
+{
+    match &complete.event {
+        Some(records) => is_broken(full, records) || are_any_broken(full, &complete.waited),
+        None => are_any_broken(full, &complete.waited),
+    }
+}
+
+// Whether one of some events does.
+fn are_any_broken(full: u32, all: &[Records]) -> bool
+    ensures { result ≡ list_any (is_broken full) all.now }
+{
+    all.iter().any(|records| is_broken(full, records))
+}
+
+impl LogWatch {
+    ghost use Rattle.std.specs.Prelude.{◌≡◌, ◌^◌, ◌+◌, ◌-◌, ◌<◌, ◌≤◌, IfOk, Ok, OnOk};
+    ghost use Rattle.csv.specs.Records.{fields_of};
+    ghost use Rattle.hlc_log.specs.Events.{IsSmallCarried};
+    ghost use Rattle.hlc_log_text.specs.LogHeader.{HasSmallCarried, IsSmallTold};
+    ghost use Rattle.hlc_watched_log.specs.Taken.{IsWhole, Takes, TakesEvent, TakesItem};
+    ghost use Rattle.hlc_watched_log.specs.Watched.{complete_as, due_rows, event_by, no_events, summary_rows, with_event, without_bad};
+
+    // Nothing came.
+    pub(crate) fn new(
+        alloc: Global,
+        rules: WatchRules,
+        key: NameKey,
+    ) -> Result<LogWatch, AllocError>
+        ensures nothing { IfOk result (λ log. log ≡ no_events rules.keep) }
+        ensures whole { IfOk result IsWhole }
+    {
+        Ok(LogWatch {
+            nodes: NameSet::new(alloc, key),
+            tallies: Vec::new(alloc),
+            messages: no_messages(alloc, rules.keep, key)?,
+            events: 0,
+            watch: Watch::new(alloc, rules.keep)?,
+            counts: WatchCounts::new(),
+            alloc,
+        })
+    }
+
+    // How many events came.
+    pub(crate) fn events(&self) -> u32
+        ensures { result ≡ self.now.events }
+    {
+        self.events
+    }
+
+    // What was found.
+    pub(crate) fn counts(&self) -> WatchCounts
+        ensures { result ≡ self.now.counts }
+    {
+        self.counts
+    }
+
+    // Writes the rows that sum the log up.
+    pub(crate) fn sum_up<W: Write>(&self, writer: &mut W) -> Result<(), OutputFault>
+        requires { IsWhole self.now }
+        ensures { OnOk result (Appends (W.contents writer.old) (W.contents writer.new) (text_of (summary_rows self.now))) }
+    {
+        write_summary(
+            self.alloc,
+            &self.nodes,
+            &self.tallies,
+            self.counts,
+            self.watch.waiting(),
+            self.watch.forgotten(),
+            writer,
+        )
+    }
+
+    // The same, if they are due.
+    fn sum_up_if_due<W: Write>(&self, every: Option<u32>, writer: &mut W) -> Result<(), OutputFault>
+        requires { IsWhole self.now }
+        ensures { OnOk result (Appends (W.contents writer.old) (W.contents writer.new) (text_of (due_rows every self.now))) }
+    {
+        match every {
+            Some(every) if every != 0 && self.events % every == 0 => self.sum_up(writer),
+            _ => Ok(()),
+        }
+    }
+
+    // Adds an event of a node and a message with these names, the number of the node being known. Gives it by numbers, and which events are
+    // complete with it.
+    fn add(
+        &mut self,
+        rules: WatchRules,
+        head: RecordHead,
+        extras: Extras,
+        node: &[u8],
+        number: usize,
+        message: &[u8],
+        line: u32,
+    ) -> Result<(LogEvent, Complete), AllocError>
+        requires number { number ≡ node_number self.old.nodes node.now }
+        requires few { number < MAX_LOG_NODES }
+        requires whole { IsWhole self.old }
+        requires room { self.old.events < 2 ^ 32 - 1 }
+        requires small { IsSmallCarried extras.carried }
+        ensures event { IfOk result (λ told. told.0 ≡ event_by self.old line head extras node.now message.now) }
+        ensures complete { IfOk result (λ told. complete_in told.1 ≡ complete_as rules self.old.kept told.0) }
+        ensures kept { IfOk result (λ told. self.new ≡ with_event rules self.old head.word node.now message.now told.0) }
+        ensures whole { OnOk result (IsWhole self.new) }
+    {
+        add_node(&mut self.nodes, &mut self.tallies, node, number)?;
+        let kind = number_kind(
+            self.alloc,
+            &mut self.messages,
+            head.word,
+            message,
+            self.events,
+        )?;
+        let event = LogEvent {
+            node: NodeId(number as u16),
+            reading: head.reading,
+            has_reading: head.has_reading,
+            kind,
+            stamp: head.stamp,
+            has_stamp: head.has_stamp,
+            carried: extras.carried,
+            seq: extras.seq,
+            line,
+        };
+        self.events += 1;
+        self.tallies[number] = self.tallies[number].with_event(&event);
+        let ruled = RuledEvent::new(rules.records.receives, &event);
+        let complete = self.watch.event(ruled)?;
+        let broken = is_any_broken(rules.records.form.full(), &complete);
+        let over_limit = is_over(rules.limit, claimed_ahead(&event));
+        self.counts = self.counts.with_event(event.kind, broken, over_limit);
+        Ok((event, complete))
+    }
+
+    // Adds an event and tells of it, or tells why it can't be watched. Its names stand in these fields.
+    fn take_event<W: Write>(
+        &mut self,
+        rules: WatchRules,
+        head: RecordHead,
+        extras: Extras,
+        placed: &ByteRecord,
+        line: u32,
+        writer: &mut W,
+    ) -> Result<Option<BadLog>, OutputFault>
+        requires whole { IsWhole self.old }
+        requires room { self.old.events < 2 ^ 32 - 1 }
+        requires small { IsSmallCarried extras.carried }
+        ensures taken { IfOk result (TakesEvent rules head extras (fields_of placed.now) self.old line
+            (W.contents writer.old) (W.contents writer.new) self.new) }
+        ensures whole { OnOk result (IsWhole self.new) }
+        ensures counted { OnOk result (self.new.events ≤ self.old.events + 1) }
+    {
+        let node = field(placed, NODE_PLACE);
+        let message = message_name(rules.records.form, head.word, placed);
+        let number = node_number(&self.nodes, node);
+        if let Some(why) = unwatched(
+            rules.records.form,
+            head.word,
+            head.has_stamp,
+            message,
+            number,
+        ) {
+            return Ok(Some(why));
+        }
+        let (event, complete) = self.add(rules, head, extras, node, number, message, line)?;
+        write_event(self.alloc, &self.nodes, rules, &complete, &event, writer)?;
+        self.sum_up_if_due(rules.every, writer)?;
+        Ok(None)
+    }
+
+    // Takes what a record on a line says, or tells why it is bad.
+    fn take_item<W: Write>(
+        &mut self,
+        rules: WatchRules,
+        item: RecordItem,
+        placed: &ByteRecord,
+        line: u32,
+        writer: &mut W,
+    ) -> Result<Option<BadLog>, OutputFault>
+        requires whole { IsWhole self.old }
+        requires room { self.old.events < 2 ^ 32 - 1 }
+        requires small { IsSmallTold item }
+        ensures taken { IfOk result (TakesItem rules (Ok item) (fields_of placed.now) self.old line (W.contents writer.old) (W.contents writer.new) self.new) }
+        ensures whole { OnOk result (IsWhole self.new) }
+        ensures counted { OnOk result (self.new.events ≤ self.old.events + 1) }
+    {
+        match item {
+            RecordItem::Event(head, extras) => {
+                self.take_event(rules, head, extras, placed, line, writer)
+            }
+            RecordItem::Other => Ok(None),
+        }
+    }
+
+    // The same, if it isn't bad itself.
+    fn take_told<W: Write>(
+        &mut self,
+        rules: WatchRules,
+        told: Result<RecordItem, BadLog>,
+        placed: &ByteRecord,
+        line: u32,
+        writer: &mut W,
+    ) -> Result<Option<BadLog>, OutputFault>
+        requires whole { IsWhole self.old }
+        requires room { self.old.events < 2 ^ 32 - 1 }
+        requires small { HasSmallCarried told }
+        ensures taken { IfOk result (TakesItem rules told (fields_of placed.now) self.old line (W.contents writer.old) (W.contents writer.new) self.new) }
+        ensures whole { OnOk result (IsWhole self.new) }
+        ensures counted { OnOk result (self.new.events ≤ self.old.events + 1) }
+    {
+        match told {
+            Ok(item) => self.take_item(rules, item, placed, line, writer),
+            Err(why) => Ok(Some(why)),
+        }
+    }
+
+    // Counts a record that is bad.
+    fn count_bad(&mut self)
+        ensures { self.new ≡ without_bad self.old }
+    {
+        self.counts.left_out = one_more(self.counts.left_out);
+    }
+
+    // Takes what a record on a line was read as, and answers it. If it is bad and isn't left out, that ends the watch.
+    pub(crate) fn take<W: Write>(
+        &mut self,
+        rules: WatchRules,
+        told: Result<RecordItem, BadLog>,
+        placed: &ByteRecord,
+        line: u32,
+        writer: &mut W,
+    ) -> Result<Option<BadLog>, OutputFault>
+        requires whole { IsWhole self.old }
+        requires room { self.old.events < 2 ^ 32 - 1 }
+        requires small { HasSmallCarried told }
+        ensures taken { IfOk result (Takes rules told (fields_of placed.now) self.old line (W.contents writer.old) (W.contents writer.new) self.new) }
+        ensures whole { OnOk result (IsWhole self.new) }
+        ensures counted { OnOk result (self.new.events ≤ self.old.events + 1) }
+    {
+        let Some(why) = self.take_told(rules, told, placed, line, writer)? else {
+            return Ok(None);
+        };
+        write_bad(self.alloc, line, why, writer)?;
+        self.count_bad();
+        if rules.records.faults.leaves_out(why) {
+            Ok(None)
+        } else {
+            Ok(Some(why))
+        }
+    }
+}
