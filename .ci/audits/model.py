@@ -764,12 +764,14 @@ def over_limit(log, limit):
 
 
 def question(line, fields):
-    """A question as it is asked: its word, and lines, or the name of a node."""
+    """A question as it is asked: its word, and lines, or the name of a node, and the word of a rule."""
     word, given = fields[0], fields[1:]
-    wanted = {b"relation": len(given) == 2, b"check": len(given) >= 1}.get(word, len(given) == 1)
+    wanted = len(given) >= 1 if word == b"check" else len(given) == (2 if word in OF_TWO else 1)
     if not wanted:
         raise Bad(line, "fields")
-    if word == b"drift":
+    if word in OF_NODES:
+        if word == b"first" and given[1] not in RULES:
+            raise Bad(line, "fields")
         return word, given
     lines = [location(field) for field in given]
     if None in lines:
@@ -828,6 +830,37 @@ def influenced(log, at, line):
     return "influenced", line, *sorted(event.line for event in later - {at[line]})
 
 
+def why(log, at, line, other):
+    """The way back from the second event, breadth first, to the node's event before ahead of the send."""
+    first, second = at[line], at[other]
+    after, open_ones = {second: None}, [second]
+    for event in open_ones:
+        for before in predecessors(event):
+            if before not in after:
+                after[before] = event
+                open_ones.append(before)
+    path, event = [], first if first in after else None
+    while event:
+        path.append(event.line)
+        event = after[event]
+    return "path", line, other, *(path or ["none"])
+
+
+def tainted(log, at, line):
+    """The events whose least stamps come out lower, if all are made again without the one floor."""
+    least = {}
+    for event in log.order:
+        floor = (0, 0) if event is at[line] else event.floor
+        least[event] = max([floor] + [following(event, least[other]) for other in predecessors(event)])
+    return "tainted", line, *sorted(event.line for event in log.events if least[event] < event.least)
+
+
+def first(log, at, name, rule):
+    of_node = log.of_node(log.nodes[name])
+    lines = [event.line for event in of_node if any(word.encode() == rule for word, *_ in causes(event, log.form.full))]
+    return "first", name, rule, *(lines[:1] or ["none"])
+
+
 def drift_of(log, at, name):
     return "drift", name, *drift(log.of_node(log.nodes[name]))
 
@@ -852,14 +885,21 @@ QUESTIONS = {
     b"drift": drift_of,
     b"claimed": claimed,
     b"event": told,
+    b"why": why,
+    b"tainted": tainted,
+    b"first": first,
 }
+# The words that two fields follow, those that the name of a node follows, and those of the rules that a clock may break.
+OF_TWO = (b"relation", b"why", b"first")
+OF_NODES = (b"drift", b"first")
+RULES = (b"behind", b"not-above", b"ahead", b"carried")
 
 
 def answers(log, asked):
     """A row for each question, in the order in which they are asked."""
     at = {event.line.told: event for event in log.events if event.line.can_be_asked}
     for word, given in asked:
-        if word == b"drift":
+        if word in OF_NODES:
             missing = given[0] not in log.nodes and "no-node"
         else:
             missing = word != b"check" and not all(line in at for line in given) and "no-event"

@@ -16,7 +16,7 @@ NO_EVENTS = "hlc: no events\n"
 NOTE = re.compile(r"hlc: none of [1-9]\d* records is an event\n")
 
 # Which word an answer begins with, if it isn't that of the record.
-ANSWERS = {**dict.fromkeys("write erase send sync deliver pull".split(), "event"), "lose": "lost", "get": "entry", "explain": "chain"}
+ANSWERS = {**dict.fromkeys("write erase send sync deliver pull".split(), "event"), "lose": "lost", "get": "entry", "explain": "chain", "why": "path"}
 
 
 def try_cases(page, program, count):
@@ -41,7 +41,7 @@ def try_lines(page):
     """Each record of a script has one answer, beside its own line, and the line of a bad log is that of a record."""
     for kind, command in [("script", "run"), ("log", "audit")]:
         given = cases(command, 300)
-        sent = json.dumps([[base64.b64encode(text).decode(), {**options, "kind": kind, "explain": "", "from": "", "to": ""}] for _, options, text in given])
+        sent = json.dumps([[base64.b64encode(text).decode(), {**options, "kind": kind, "explain": "", "from": "", "to": "", "output": ""}] for _, options, text in given])
         got = page.ask(
             f"""(async () => {{
             const told = [];
@@ -55,7 +55,7 @@ def try_lines(page):
         for seed, ((_, _, text), (status, lines, beside)) in enumerate(zip(given, got, strict=True)):
             if kind == "script" and status == 0:
                 hold(f"{kind} {seed}: {len(lines)} records and {len(beside)} answers", len(lines) == len(beside))
-                known = text.removeprefix(b"\xef\xbb\xbf").split(b"\n")
+                known = re.split(rb"\r\n?|\n", text.removeprefix(b"\xef\xbb\xbf"))
                 for line, row in ((line, row) for line, row in zip(lines, beside) if lines.count(line) == 1):
                     word = known[line].strip(b"\r").split(b",")[0].decode("latin1")
                     right = row[0] in {"refused", ANSWERS.get(word, word), "none" if word == "get" else "", "gone" if word == "get" else ""}

@@ -1,5 +1,6 @@
 """Texts to ask the page and the program, from seeds: scripts, traces, logs and storms, well and badly formed."""
 
+import json
 import random
 
 KEYS = ["a", "b", "cart", '"x,y"', '"a ""b"""', "ä", "", "<b>", '"two\nlines"']
@@ -28,6 +29,7 @@ def script(rng):
                 + [f"send,{node},{reading},{(node + 1) % 3},{key}", f"deliver,{node},{reading},{event}", f"pull,{node},{reading},k,v"] * 2
                 + [f"erase,{node},{reading},{key}", f"sync,{node},{reading},{(node + 2) % 3}", f"lose,{event}", f"get,{node},{key}", f"table,{node}"]
                 + [f"explain,{event}", f"relation,{event},{rng.randrange(events + 1)}", f"influenced,{event}", f"drift,{node}", f"check,{event},{event}"]
+                + [f"why,{rng.randrange(events + 1)},{event}", f"tainted,{event}"]
                 + [f"snapshot,{rng.randint(1, 60)},{rng.randint(0, 3)},{node}", f"inbox,{node}", key]
             )
         )
@@ -63,7 +65,8 @@ def log(rng, form):
             messages += 1
     if rng.random() < 0.4:
         line = rng.randint(1, len(rows) + 1)
-        rows += rng.sample([f"explain,{line}", f"relation,1,{line}", f"influenced,{line}", f"drift,{names[0]}", f"claimed,{line}", f"event,{line}", f"check,{line},1"], 3)
+        asked = [f"explain,{line}", f"relation,1,{line}", f"influenced,{line}", f"drift,{names[0]}", f"claimed,{line}", f"event,{line}", f"check,{line},1"]
+        rows += rng.sample([*asked, f"why,1,{line}", f"tainted,{line}", f"first,{names[0]},behind"], 3)
     return spoilt(rng, joined(rng, rows))
 
 
@@ -125,33 +128,88 @@ def judge_case(rng):
     return ["judge"], {}, trace(rng)
 
 
+def put(told, path, value):
+    """A value in an object, at the end of a path."""
+    *above, last = path.split(".")[1:]
+    for key in above:
+        told = told.setdefault(key, {})
+    told[last] = value
+
+
+def lines(rng, form, fields, kinds):
+    """A log as lines of JSON, which says its columns where the fields say that they stand."""
+    paths, named = dict(text.split("=", 1) for text in fields), dict(text.split("=", 1) for text in kinds)
+    rows = []
+    for number in range(rng.choice((0, 1, 2, 6, 20))):
+        word, l, c = rng.choice(("local", "send", "receive", "receive", "restart", "started")), rng.randint(1, 32), rng.choice((0, 0, 1, 2))
+        told = {"level": rng.choice(("info", 7, None)), "label": rng.choice(("", "<b>", "a\nb", 3))}
+        stamp = {"stamp": l << form | c if 1 <= form <= 32 else rng.choice((f"{l}.{c}", f"{l}:{c}/id"))} if form or rng.random() < 0.3 else {"l": l, "c": rng.choice((c, str(c)))}
+        columns = {"kind": rng.choice(named.get(word, word).split(",")), "node": rng.choice("ab"), "reading": rng.randint(1, 30), **stamp}
+        if word in ("send", "receive"):
+            columns["message"] = f"m{rng.randrange(number + 1)}"
+        for name, value in columns.items():
+            put(told, paths.get(f"{word}.{name}", paths.get(name, f".{name}")), value)
+        rows += [json.dumps(told), *rng.choice(([], [], [], ["", "12:00 started", "[1]"]))]
+    return spoilt(rng, joined(rng, rows))
+
+
+def many(name, texts):
+    return [word for text in texts for word in (f"--{name}", text)]
+
+
 def reading(rng):
-    """How a log is read, as the words of the command line and as the page's."""
+    """How a log is read, as the words of the command line and as the page's, and a log."""
     form, unsent = rng.choice((0, 0, 4, 12, 32, 33)), rng.random() < 0.4
     tolerance, receives = rng.choice((None, None, 0, 3, 2**63 - 1)), rng.choice((None, "tick", "merge", "merge-clock"))
+    resent, faults = rng.choice((None, None, "first", "last")), rng.choice((None, None, "lenient", "all-faults"))
+    readings, unit = rng.choice(((None, None), (None, None), ("s", "s"), ("ms", "us"), ("us", "ms"), ("ns", "ntp64")))
     words = [*(["--dotted"] if form == 33 else option("packed", form or None)), *option("tolerance", tolerance), *option("receives", receives)]
     words += ["--unsent", "local"] if unsent else []
-    return words, {"form": form, "tolerance": "" if tolerance is None else str(tolerance), "receives": receives or "tick", "unsent": unsent}
+    words += [*option("resent", resent), *([f"--{faults}"] if faults else []), *option("reading-unit", readings), *option("l-unit", unit)]
+    options = {"form": form, "tolerance": "" if tolerance is None else str(tolerance), "receives": receives or "tick", "unsent": unsent}
+    options |= {"resent": resent or "", "bad": faults or "", "reading-unit": readings or "", "l-unit": unit or ""}
+    if rng.random() < 0.5:
+        return words, options, log(rng, form)
+    fields = [text for text in ("kind=.event", "node=.at.node", "receive.message=.parent", "node=.of") if rng.random() < 0.4]
+    kinds = rng.choice(([], ["send=posted,sent"], ["local=1", "send=posted"]))
+    text = lines(rng, form, fields, kinds)
+    fields += rng.choice(([],) * 20 + (["x=.a"], ["node"]))
+    kinds += rng.choice(([],) * 20 + (["post=x"], ["send=x,,y"]))
+    return [*words, "--jsonl", *many("field", fields), *many("kind", kinds)], {**options, "jsonl": True, "fields": fields, "kinds": kinds}, text
 
 
 def audit_case(rng):
-    words, options = reading(rng)
-    limit, report = rng.choice((None, None, 0, 5)), rng.random() < 0.3
-    words = ["audit", *words, *option("limit", limit), "--strict", *(["--report"] if report else [])]
-    return words, {**options, "limit": "" if limit is None else str(limit), "report": report}, log(rng, options["form"])
+    words, options, text = reading(rng)
+    limit, report, groups = rng.choice((None, None, 0, 5)), rng.random() < 0.3, rng.random() < 0.3
+    asked, output = rng.choice(([], [], ["event,1"], ["explain,2", "drift,a"], ["relation,1,2", "event"])), rng.choice((None, None, "csv", "json", "text", "text"))
+    words = ["audit", *words, *option("limit", limit), "--strict", *(["--report"] if report else []), *(["--groups"] if groups else []), *many("ask", asked), *option("output", output)]
+    return words, {**options, "limit": "" if limit is None else str(limit), "report": report, "groups": groups, "asked": asked, "output": output or ""}, text
+
+
+def told_log(rng):
+    """How a log is read, as the words of the command line and as the parts of an address, and a log that an address can have."""
+    while True:
+        words, options, text = reading(rng)
+        if not text.strip() or b"\xff" in text or not {"x=.a", "node", "post=x", "send=x,,y"}.isdisjoint(words):
+            continue
+        form, limit = options.pop("form"), rng.choice((None, 0, 5))
+        stamps = {"stamps": "dotted"} if form == 33 else {"stamps": "packed", "bits": form} if form else {"stamps": "pair"}
+        parts = {name: "\n".join(value) if isinstance(value, list) else "1" if value is True else value for name, value in options.items() if value}
+        return [*words, *option("limit", limit)], {"kind": "log", **stamps, **parts, **({} if limit is None else {"limit": limit}), "text": text.decode()}, text
 
 
 def vectors_case(rng):
-    words, options = reading(rng)
-    return ["vectors", *words], options, log(rng, options["form"])
+    words, options, text = reading(rng)
+    return ["vectors", *words], options, text
 
 
 def draw_log_case(rng):
+    words, options, text = reading(rng)
     if rng.random() < 0.4:
-        (words, options), (more, part) = reading(rng), around(rng)
-        return ["draw-log", *words, *more], {**options, **part}, log(rng, options["form"])
-    words, options = drawn(*reading(rng), view(rng, 1))
-    return ["draw-log", *words], options, log(rng, options["form"])
+        more, part = around(rng)
+        return ["draw-log", *words, *more], {**options, **part}, text
+    words, options = drawn(words, options, view(rng, 1))
+    return ["draw-log", *words], options, text
 
 
 def storm_case(rng):

@@ -37,7 +37,7 @@ class Page:
 
     def settle(self):
         """Waits until it has answered, and shows no progress."""
-        self.wait(r"/ in [\d.]+ ms|Stopped|hlc: |takes files|whole number|no text:|there is no line/.test(document.getElementById('said').textContent) && document.getElementById('stop').disabled")
+        self.wait(r"/ in [\d.]+ ms|Stopped|hlc: |takes files|whole number|no text:|there is no line|of the form|one unit/.test(document.getElementById('said').textContent) && document.getElementById('stop').disabled")
 
     def text(self, name):
         return self.ask(f"document.getElementById('{name}').textContent")

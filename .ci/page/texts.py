@@ -4,6 +4,7 @@ import json
 import os
 import subprocess
 import tempfile
+from urllib.parse import quote
 
 from page import TOP, asked, hold, words_of
 
@@ -146,6 +147,69 @@ def try_kinds(page, program):
         hold(f"{it['name']} is taken as {told}", told == wanted)
 
 
+# Lines as a service writes them, with others between them, and how they are read.
+SERVICE = """{"level":"info","msg":"listening"}
+{"event":"rpc.send","service":"eu","hlc":"100.0","clock":{"wall":100},"rpc":"a7","what":"cart"}
+{"event":"rpc.recv","service":"us","hlc":"100:1/u2","clock":{"wall":"90"},"rpc":"a7"}
+
+{"event":"rpc.send","service":"us","hlc":"100.0","clock":{"wall":101},"rpc":"a8","what":"cart"}
+"""
+FIELDS = ["kind=.event", "node=.service", "stamp=.hlc", "reading=.clock.wall", "message=.rpc", "label=.what"]
+SERVICE_KINDS = ["send=rpc.send", "receive=rpc.recv"]
+SERVICE_WORDS = ["--jsonl", *[word for text in FIELDS for word in ("--field", text)], *[word for text in SERVICE_KINDS for word in ("--kind", text)]]
+
+
+def try_json(page, program):
+    """Lines of JSON that are dropped: what the page tells of them, and their audit and picture once it is said where an event stands."""
+    page.open("#kind=script&text=")
+    page.drop(("service.jsonl", json.dumps(SERVICE)))
+    hold("lines of JSON aren't taken as such", page.value("kind") == "log" and page.ask("document.getElementById('jsonl').checked && document.getElementById('fields').offsetParent !== null"))
+    hold(f"of their keys it says {page.text('paths')}", page.text("paths") == "Here there are .level .msg .event .service .hlc .clock.wall .rpc .what")
+    hold(f"of lines without events it says {page.text('conclusion')}", page.text("conclusion") == "The log has no event." and page.text("hint") == "Fields and kinds, above, say where in a line an event stands.")
+    page.fill(fields="\n".join(FIELDS) + "\nnode")
+    page.press("answer")
+    hold(f"of a field that is none it says {page.text('said')}", page.text("said").startswith("Fields: node isn't of the form NAME=.PATH") and page.ask("document.getElementById('fields').ariaInvalid") == "true")
+    page.fill(fields="\n".join(FIELDS), kinds="\n".join(SERVICE_KINDS))
+    page.press("answer")
+    hold(f"their causes are told as {page.text('tables')[:300]}", "claimed 100.0, after 100.1 at line 3" in page.text("tables"))
+    words = words_of(page)
+    hold(f"the command lines are {words}", words == [["audit", *SERVICE_WORDS, "--strict"], ["draw-log", *SERVICE_WORDS]])
+    hold("their audit differs", page.saved("save-answers") == asked(program, words[0], SERVICE.encode())[0])
+    hold("their picture differs", page.saved("save-svg") == asked(program, words[1], SERVICE.encode())[0])
+    hold(f"beside them stands {page.beside()}", page.beside()[4] == "cause,us,behind cause,us,not-above,3")
+    page.click("#e3 text")
+    page.wait("document.getElementById('told').textContent !== ''")
+    hold(f"a chain of them is {page.text('told')}", page.text("told").startswith("The event of line 3 has the least stamp (100, 1) because of the chain 2 → 3"))
+    for found, says in [("node:us", "1 of 2: line 3"), ("label:cart node:us", "1 of 1: line 5"), ("a7", "1 of 2: line 2")]:
+        page.ask(f"document.getElementById('found').textContent = ''; document.getElementById('search').value = '{found}'; document.getElementById('find').click()")
+        page.wait("document.getElementById('found').textContent !== ''")
+        hold(f"a search for {found} says {page.text('found')}", page.text("found") == says)
+    page.open(f"{page.ask('location.hash')}&text={quote(SERVICE)}")
+    hold("options of lines of JSON don't come back from the address", words_of(page)[1][: len(SERVICE_WORDS) + 1] == ["draw-log", *SERVICE_WORDS])
+
+
+def try_reading(page, program):
+    """The other options by which a log is read, and what they leave of it."""
+    text = "send,a,10,10,0,m\nsend,a,20,20,0,m\nreceive,b,20,20,1,m\nlocal,b,x,30,0\nlocal,b,40,39,0\n"
+    page.open("#kind=script&text=")
+    for values, words in [
+        ({"bad": "all-faults"}, ["--all-faults"]),
+        ({"bad": "lenient"}, ["--lenient"]),
+        ({"bad": "lenient", "resent": "last", "reading-unit": "ms", "l-unit": "us"}, ["--reading-unit", "ms", "--l-unit", "us", "--resent", "last", "--lenient"]),
+    ]:
+        page.answer("log", text, **{"stamps": "pair", "limit": "", "reading-unit": "", "l-unit": "", "resent": "", **values})
+        told, drawn = asked(program, ["audit", *words], text.encode())[0], asked(program, ["draw-log", *words], text.encode())[0]
+        hold(f"with {words} the audit differs", page.text("answers").encode() == told)
+        hold(f"with {words} the command line is {words_of(page)}", [word for word in words_of(page)[0] if word != "--strict"] == ["audit", *words])
+        hold(f"with {words} the picture differs", drawn.startswith(b"bad") or page.saved("save-svg") == drawn)
+    page.do("document.getElementById('groups').click(); document.getElementById('answer').click()")
+    hold(f"in groups the answers are {page.text('answers')[-200:]}", "\ngroup,b,behind,,2,3\n" in page.text("answers") and "--groups" in words_of(page)[0])
+    page.open(page.ask("location.hash"))
+    hold("the options aren't shown", page.ask("document.getElementById('reading').open") and page.value("bad") == "lenient" and page.value("l-unit") == "us")
+    page.answer("log", text, **{"l-unit": ""})
+    hold(f"of one unit alone it says {page.text('said')}", page.text("said") == "L in: one unit needs the other.")
+
+
 def try_undo(page, program):
     """What was typed comes back, and answers stay until the next ones."""
     page.open("#kind=script&nodes=2&capacity=16&text=write,0,10,a,mine")
@@ -169,6 +233,30 @@ def try_undo(page, program):
     hold("Ctrl+Enter doesn't answer", page.beside()[1] == "entry,a,10,0,0,0,mine" and not page.ask("document.querySelector('.outdated')"))
 
 
+def try_outdated(page, program):
+    """What was answered stays, greyed, when another text or another kind takes its place, or an option changes, and until it is answered anew."""
+    page.example("A log with broken stamps")
+    here = "[document.getElementById('main').classList.contains('outdated'), document.querySelectorAll('#table-cause tbody tr').length, document.querySelectorAll('#picture g[id]').length]"
+    stays = page.ask(f"(() => {{ const example = document.getElementById('example'); example.value = '0'; example.dispatchEvent(new Event('change')); return {here}; }})()")
+    page.settle()
+    hold(f"of another example there stay {stays}", stays == [True, 4, 11] and page.ask(here) == [False, 0, 10])
+    hold("its report stays", page.ask("document.getElementById('report-part').hidden && document.getElementById('words-part').hidden"))
+    page.example("A log with broken stamps")
+    page.fill(limit="3")
+    hold(f"after an option there stay {page.ask(here)}, and it says {page.text('said')}", page.ask(here) == [True, 4, 11] and "options have changed" in page.text("said"))
+    page.ask("document.getElementById('limit').focus(), document.getElementById('said').textContent = ''")
+    page.key("Enter", 13, ctrl=True)
+    page.settle()
+    hold("Ctrl+Enter in an option doesn't answer", not page.ask(here)[0] and "--limit" in words_of(page)[0])
+    page.ask("(() => { const kind = document.getElementById('kind'); kind.value = 'trace'; kind.dispatchEvent(new Event('change')); })()")
+    hold(f"after another kind there stay {page.ask(here)}", page.ask(here) == [True, 4, 11])
+    page.press("answer")
+    hold(f"as a trace there are {page.ask(here)}", page.ask("document.getElementById('report-part').hidden && document.getElementById('picture-part').hidden"))
+    page.open("#kind=script&nodes=1&text=write,0,10,a,x")
+    hold(f"a text stays in an address that is refused: {page.ask('location.hash')}", page.ask("location.hash") == "#kind=script&nodes=1" and page.value("text") == "write,0,10,a,x")
+    page.open("#kind=script&nodes=2&capacity=16&text=write,0,10,a,x")
+
+
 def try_stop(page, program):
     """A run that is stopped, and one after it."""
     page.open("#kind=script&nodes=2&capacity=16&text=")
@@ -187,4 +275,4 @@ def try_stop(page, program):
     hold("after a stopped run it answers something else", page.text("answers") == "event,0,10,0\n")
 
 
-CHECKS = [try_several_files, try_long_files, try_files, try_long_text, try_kinds, try_undo, try_stop]
+CHECKS = [try_several_files, try_long_files, try_files, try_long_text, try_kinds, try_json, try_reading, try_undo, try_outdated, try_stop]

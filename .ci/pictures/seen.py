@@ -4,7 +4,7 @@
     .ci/pictures/seen.py < PICTURE.svg
 
 A shape is seen if its fill or its line has a contrast of 3 to 1 at least against the ground, a text if it has 4.5 to 1 against each of the grounds that
-it stands on: the ground and a band, or the dot. The style may say nothing of these but colours, widths, dashes, heads of arrows and fonts, so that it can't hide
+it stands on: the ground and a band, or the dot. The style may say nothing of these but colours, widths, dashes, heads of arrows, fonts and in which order a text is painted, so that it can't hide
 or move what it doesn't paint over.
 """
 
@@ -14,7 +14,7 @@ import xml.etree.ElementTree as tree
 
 SVG = "{http://www.w3.org/2000/svg}"
 SHAPES, LINES = ("rect", "polygon"), ("line", "polyline", "path")
-PROPERTIES = {"fill", "stroke", "stroke-width", "stroke-dasharray", "marker-end", "text-anchor", "font", "font-size", "font-weight"}
+PROPERTIES = {"fill", "stroke", "stroke-width", "stroke-dasharray", "marker-end", "text-anchor", "font", "font-size", "font-weight", "paint-order"}
 INHERITED = {"fill": "#000", "stroke": "none", "stroke-width": "1"}
 SHAPE_CONTRAST, TEXT_CONTRAST, LEAST_FONT = 3, 4.5, 10
 DARK = re.compile(r"@media \(prefers-color-scheme:dark\)\{((?:[^{}]*\{[^{}]*\})*)\}")

@@ -13,13 +13,12 @@ use Rattle.hlc_text.specs.Steps.{printed_text}
 use Rattle.hlc_command_line.specs.Line.{AskForMistake, AskForTurned, IsOrderFound, IsTurned, line_app, line_faults}
 use Rattle.hlc_command_line.specs.declared.line_fault.LineFault.{LineFault}
 use Rattle.hlc_command_line.specs.declared.line_fault.LineFault.TheVariants as fault
-use Rattle.hlc_command_line.specs.declared.line_order.HistoryPart.TheVariants as history
 use Rattle.hlc_command_line.specs.declared.line_order.Order.{Order}
 use Rattle.hlc_command_line.specs.declared.line_order.Order.TheVariants as order
 use Rattle.hlc_command_fault.specs.declared.command_fault.CommandFault.{CommandFault}
 use Rattle.hlc_command_fault.specs.declared.no_events.NoEvents.{NoEvents}
 use Rattle.hlc_script_commands.specs.Answered.{IsScriptAnswered}
-use Rattle.hlc_script_commands.specs.Drawn.{IsChainDrawnBut, IsChainDrawnWhole, IsDrawnBut, IsDrawnWhole, IsScriptFor}
+use Rattle.hlc_script_commands.specs.Drawn.{IsDrawnBut, IsDrawnWhole, IsScriptFor}
 use Rattle.hlc_script_commands.specs.NoEvents.{IsNoteOn}
 use Rattle.hlc_script_commands.specs.Traced.{IsScriptTraced}
 use Rattle.hlc_log_commands.specs.Audited.{IsAuditPassed, IsAuditedBut, IsLogNote}
@@ -48,8 +47,7 @@ AskForText arguments = (kind : ErrorKind) × IsText kind × IsAmong kind (line_f
 -- what the order asks for was done, in terms of what the input held and the output got, if these are known
 abbrev pub IsDone : (input before after : Option (List ℕ)) → Order → Type 0
 IsDone input before after (order.Run settings) = IsScriptAnswered settings input before after
-IsDone input before after (order.Draw settings (history.Events explained from to)) = IsDrawnWhole settings explained from to input before after
-IsDone input before after (order.Draw settings (history.Chain event)) = IsChainDrawnWhole settings event input before after
+IsDone input before after (order.Draw settings part) = IsDrawnWhole settings part input before after
 IsDone input before after (order.Trace settings vector) = IsScriptTraced settings vector input before after
 IsDone input before after order.Judge = IsJudged MAX_RECORDS input before after
 IsDone input before after (order.Audit options asked json) = IsAuditPassed options asked.items (records_in json input) before after
@@ -61,9 +59,7 @@ IsDone input before after (order.Threads nodes steps seed limit) = IsPlayed node
 
 -- what the order asks for was done but for this fault, of which the answer tells
 abbrev pub IsDoneBut : CommandFault → (input before after : Option (List ℕ)) → Order → Type 0
-IsDoneBut fault input before after (order.Draw settings (history.Events explained from to)) =
-    IsDrawnBut fault settings explained from to input before after
-IsDoneBut fault input before after (order.Draw settings (history.Chain event)) = IsChainDrawnBut fault settings event input before after
+IsDoneBut fault input before after (order.Draw settings part) = IsDrawnBut fault settings part input before after
 IsDoneBut fault input before after (order.Audit options asked json) = IsAuditedBut fault options asked.items (records_in json input) before after
 IsDoneBut fault input before after (order.Watch options json) = IsWatchedBut fault options (records_in json input) before after
 IsDoneBut fault input before after (order.DrawLog options json) = IsLogDrawnBut fault options (records_in json input) before after

@@ -14,10 +14,10 @@ use crate::ended::Ended;
 use crate::fault::Fault;
 use clap::error::ErrorKind;
 use hlc_command_fault::{CommandFault, NoEvents};
-use hlc_command_line::{Hint, HistoryPart, LineFault, Order, hint_for, order, sign_hint};
+use hlc_command_line::{Hint, LineFault, Order, hint_for, order, sign_hint};
 use hlc_csv::RecordsFault;
 use hlc_log_commands::{NameKey, audit_log, draw_log, vectors_of_log};
-use hlc_script_commands::{draw_script, draw_script_chain, print_storm, run_script, trace_script};
+use hlc_script_commands::{draw_script, print_storm, run_script, trace_script};
 use hlc_threads_command::play;
 use hlc_trace::judge_run;
 use hlc_watch_command::watch_log;
@@ -103,16 +103,7 @@ fn carry_out<R: AllocGlobal + Threads + Wait + Sync, I: Read + Drop, O: Write>(
     let alloc = rt.alloc();
     match order {
         Order::Run(settings) => unnoted(run_script(alloc, reader, writer, settings)),
-        Order::Draw { settings, part } => match part {
-            HistoryPart::Events {
-                explained,
-                from,
-                to,
-            } => draw_script(alloc, reader, writer, settings, explained, from, to),
-            HistoryPart::Chain { event } => draw_script_chain(
-                alloc, reader, writer, settings, event,
-            ),
-        },
+        Order::Draw { settings, part } => { draw_script(alloc, reader, writer, settings, part) }
         Order::Trace { settings, vector } => {
             trace_script(alloc, reader, writer, settings, vector)
         }

@@ -20,7 +20,7 @@ use Rattle.hlc_packed.specs.Packed.{CanCount}
 use Rattle.hlc_packed.specs.declared.packed_bits.PackedBits.{PackedBits}
 use Rattle.hlc_command_line.specs.LineOption.{AreUnsigned}
 use Rattle.hlc_command_line.specs.NumberOption.{IsNumberOf, IsOptionalNumber, IsSigned}
-use Rattle.hlc_command_line.specs.Line.{HasOptions, HasUnlessSigned, IsEntered, IsRefusal, IsRefusedFound, all_numbers, capacity, draw_log_numbers, draw_log_options, every, explain, from, keep, limit, line_app, nodes, number_names, packed, positive, receives_word, rows_around, seed, steps, subcommand_audit, subcommand_draw, subcommand_draw_log, subcommand_run, subcommand_storm, subcommand_threads, subcommand_trace, subcommand_vectors, subcommand_watch, subcommands, to, tolerance}
+use Rattle.hlc_command_line.specs.Line.{HasOptions, HasUnlessSigned, IsEntered, IsRefusal, IsRefusedFound, all_numbers, around, capacity, draw_log_numbers, draw_log_options, every, explain, from, keep, limit, line_app, nodes, number_names, packed, positive, receives_word, rows_around, seed, steps, subcommand_audit, subcommand_draw, subcommand_draw_log, subcommand_run, subcommand_storm, subcommand_threads, subcommand_trace, subcommand_vectors, subcommand_watch, subcommands, to, tolerance}
 use Rattle.hlc_command_line.specs.declared.line_fault.LineFault.{LineFault}
 use Rattle.hlc_command_line.specs.declared.line_fault.LineFault.TheVariants as fault
 use Rattle.hlc_command_line.proofs.App.Each.{Each}
@@ -75,6 +75,9 @@ first_is_number = unsigned_numbers from.name _ _
 last_is_number : TakesNumbers to
 last_is_number = unsigned_numbers to.name _ _
 
+around_is_number : TakesNumbers around
+around_is_number = unsigned_numbers around.name _ _
+
 packed_is_number : TakesNumbers packed
 packed_is_number = unsigned_numbers packed.name _ _
 
@@ -89,7 +92,7 @@ line_is_orderly =
     let run : IsOrderly subcommand_run = ((refl, nodes_are_numbers), ((refl, capacity_is_number), ((refl, limit_is_number), tt))) in
     let draw : IsOrderly subcommand_draw = (
       (refl, nodes_are_numbers),
-      ((refl, capacity_is_number), ((refl, limit_is_number), ((refl, explained_is_number), ((refl, first_is_number), ((refl, last_is_number), ((refl, tt), tt)))))),
+      ((refl, capacity_is_number), ((refl, limit_is_number), ((refl, explained_is_number), ((refl, first_is_number), ((refl, last_is_number), ((refl, around_is_number), ((refl, positive_is_number rows_around.name), ((refl, tt), tt)))))))),
     ) in
     let trace : IsOrderly subcommand_trace =
     ((refl, nodes_are_numbers), ((refl, capacity_is_number), ((refl, limit_is_number), ((refl, tt), tt)))) in
@@ -159,10 +162,10 @@ draw_log_unsigned rows (r, (p, (d, none))) =
     (p, (tt, (d, (tt, (tt, (tt, (tt, (tt, (tt, (tt, (tt, (tt, (tt, (tt, (tt, (tt, (tt, (r, (tt, tt)))))))))))))))))))
 
 each_unsigned : (rows : List Row) → AllByRecursion (λ name. ¬ IsSigned rows name) all_numbers → Each (λ s. AreUnsigned rows s.options) subcommands
-each_unsigned rows (n, (c, (l, (k, (s, (e, (f, (t, (r, (p, (d, (kept, (each, none))))))))))))) = (
+each_unsigned rows (n, (c, (l, (k, (s, (e, (f, (t, (a, (r, (p, (d, (kept, (each, none)))))))))))))) = (
   (n, (c, (l, tt))),
   (
-    (n, (c, (l, (e, (f, (t, (tt, tt))))))),
+    (n, (c, (l, (e, (f, (t, (a, (r, (tt, tt))))))))),
     (
       (n, (c, (l, (tt, tt)))),
       (

@@ -1,4 +1,5 @@
 pub mod Asked
+pub mod DrawnPart
 pub mod Fault
 pub mod Hint
 pub mod NumberOption
@@ -7,6 +8,7 @@ pub mod Subcommand
 pub mod JsonOptions
 pub mod UnitOptions
 pub mod LogLine
+pub mod PartOptions
 pub mod Line
 pub mod ResentOption
 pub mod Rules

@@ -1,5 +1,6 @@
 -- The command line of `hlc`.
 use Rattle.std.specs.Prelude.{◌≡◌, ◌≢◌, ◌⊎◌, ◌<◌, ◌-◌, ◌^◌, if◌then◌else◌, ℕ, false, true, ⊤, List, [], ◌∷◌, ◌++◌, Option, None, Some, codes, find, fold, option_map, unwrap_or}
+use Rattle.std.specs.Borrow.{Bor}
 use Rattle.std.specs.Option.{IsSomeAnd}
 use Rattle.std.specs.Str.{bytes_eq}
 use Rattle.clap.specs.Kinds.{IsAmong, Kinds}
@@ -20,12 +21,16 @@ use Rattle.hlc_json_lines.specs.Rules.{field_of_text, kind_of_text}
 use Rattle.hlc_command_line.specs.Asked.{AreAsked, AsksNothing, ask, texts_of_option}
 use Rattle.hlc_command_line.specs.JsonOptions.{IsJsonOf, IsSyntaxOf, LacksMeaning, field, is_json_given, jsonl, kind}
 use Rattle.hlc_command_line.specs.LineOption.{HaveOptions, HaveUnlessSigned, IsFlagOf, IsOtherWord, IsWordOf, LineOption, flag, many, number, word}
-use Rattle.hlc_command_line.specs.LogLine.{IsLineGiven, IsLineLeftOut, IsLineOf, IsLineOption, IsOptionalLine, TellsNoLine, around_line, explained_line, first_line, last_line}
-use Rattle.hlc_command_line.specs.NumberOption.{IsGiven, IsLeftOut, IsNumberOf, IsOptionalNumber, IsSignedAmong, NumberOption, optional, signed_option, unsigned_option}
+use Rattle.hlc_command_line.specs.LogLine.{IsLineOption, TellPart, TellsNoLine, around_line, explained_line, first_line, last_line}
+use Rattle.hlc_command_line.specs.NumberOption.{IsNumberOf, IsOptionalNumber, IsSignedAmong, NumberOption, optional, signed_option, unsigned_option}
+use Rattle.hlc_command_line.specs.PartOptions.{SayNone, SayPart}
 use Rattle.hlc_command_line.specs.ResentOption.{IsNoResent, IsResentOf, resent}
 use Rattle.hlc_command_line.specs.Rules.{program_app}
 use Rattle.hlc_command_line.specs.Subcommand.{Subcommand, app_of_subcommand}
 use Rattle.hlc_command_line.specs.UnitOptions.{AreUnitsOf, IsUnitsMistake, l_unit, reading_unit}
+use Rattle.hlc_command_line.specs.declared.drawn_part.DrawnPart.{DrawnPart}
+use Rattle.hlc_command_line.specs.declared.drawn_part.DrawnPart.TheVariants.{Rows}
+use Rattle.hlc_command_line.specs.declared.drawn_part.DrawnRows.TheVariants.{Between}
 use Rattle.hlc_command_line.specs.declared.line_fault.LineFault.{LineFault}
 use Rattle.hlc_command_line.specs.declared.line_fault.LineFault.TheVariants as fault
 use Rattle.hlc_command_line.specs.declared.line_fault.PartMistake.{PartMistake}
@@ -34,18 +39,14 @@ use Rattle.hlc_command_line.specs.declared.line_fault.RecordsMistake.{RecordsMis
 use Rattle.hlc_command_line.specs.declared.line_fault.RecordsMistake.TheVariants as mistake
 use Rattle.hlc_command_line.specs.declared.line_order.AuditOptions.{AuditOptions}
 use Rattle.hlc_command_line.specs.declared.line_order.DrawLogOptions.{DrawLogOptions}
-use Rattle.hlc_command_line.specs.declared.line_order.HistoryPart.{HistoryPart}
-use Rattle.hlc_command_line.specs.declared.line_order.HistoryPart.TheVariants as history
-use Rattle.hlc_command_line.specs.declared.line_order.LogPart.{LogPart}
-use Rattle.hlc_command_line.specs.declared.line_order.LogPart.TheVariants.{Chain, Rows}
-use Rattle.hlc_command_line.specs.declared.line_order.LogRows.{LogRows}
-use Rattle.hlc_command_line.specs.declared.line_order.LogRows.TheVariants.{Around, Between}
-use Rattle.hlc_command_line.specs.declared.line_order.TheConstants.{USUAL_KEPT, USUAL_ROWS}
+use Rattle.hlc_command_line.specs.declared.line_order.LogLine.{LogLine}
+use Rattle.hlc_command_line.specs.declared.line_order.TheConstants.{USUAL_KEPT}
 use Rattle.hlc_command_line.specs.declared.line_order.WatchOptions.{WatchOptions}
 use Rattle.hlc_command_line.specs.declared.line_order.Order.{Order}
 use Rattle.hlc_command_line.specs.declared.line_order.OutputForm.{OutputForm}
 use Rattle.hlc_command_line.specs.declared.line_order.OutputForm.TheVariants as form
 use Rattle.hlc_command_line.specs.declared.line_order.Order.TheVariants as order
+use Rattle.hlc_command_line.specs.declared.part_options.PartOptions.{PartOptions}
 use Rattle.hlc_command_line.specs.declared.subcommand_rule.SubcommandName.{SubcommandName}
 use Rattle.hlc_command_line.specs.declared.subcommand_rule.SubcommandName.TheVariants as named
 
@@ -76,6 +77,9 @@ from = event_number (codes "from")
 
 abbrev pub to : NumberOption
 to = event_number (codes "to")
+
+abbrev pub around : NumberOption
+around = event_number (codes "around")
 
 -- a number from 1 on, which need not be given
 abbrev pub positive : Text → NumberOption
@@ -154,7 +158,8 @@ subcommand_run = record { name = codes "run"; options = settings_options }
 
 -- what of a history is drawn
 abbrev pub history_options : List LineOption
-history_options = number explain ∷ number from ∷ number to ∷ flag only_chain ∷ []
+history_options =
+    number explain ∷ number from ∷ number to ∷ number around ∷ number rows_around ∷ flag only_chain ∷ []
 
 abbrev pub draw_options : List LineOption
 draw_options = settings_options ++ history_options
@@ -224,8 +229,8 @@ subcommands =
 -- the options that take numbers
 abbrev pub all_numbers : List Text
 all_numbers =
-    nodes.name ∷ capacity.name ∷ limit.name ∷ steps.name ∷ seed.name ∷ explain.name ∷ from.name ∷ to.name ∷ rows_around.name ∷ packed.name
-    ∷ tolerance.name ∷ keep.name ∷ every.name ∷ []
+    nodes.name ∷ capacity.name ∷ limit.name ∷ steps.name ∷ seed.name ∷ explain.name ∷ from.name ∷ to.name ∷ around.name ∷ rows_around.name
+    ∷ packed.name ∷ tolerance.name ∷ keep.name ∷ every.name ∷ []
 
 -- those of them that do so in `draw-log`
 abbrev pub draw_log_numbers : List Text
@@ -272,12 +277,22 @@ pub record AreSeeded (rows : List Row) (node_count step_count number : ℕ) : Ty
 abbrev pub IsOptionalEvent : List Row → NumberOption → Option EventId → Type 0
 IsOptionalEvent rows o event = IsOptionalNumber rows o (option_map (λ e. e.0) event)
 
--- what of a history is drawn: the events from one to another, or with `--only-chain` no events but the chain that is explained
-abbrev pub IsHistoryPart : List Row → HistoryPart → Type 0
-IsHistoryPart rows (history.Events explained first last) =
-    IsOptionalEvent rows explain explained × IsOptionalEvent rows from first × IsOptionalEvent rows to last × IsFlagOf rows only_chain false
-IsHistoryPart rows (history.Chain event) =
-    IsNumberOf rows explain event.0 × IsLeftOut rows from × IsLeftOut rows to × IsFlagOf rows only_chain true
+-- what each option of a part is given, where an option of a name names an event, or is left out, by `Names`
+pub record ArePartOptions {E : Type 0} (rows : List Row) (Names : Text → Option E → Type 0) (given : PartOptions E) : Type 0 where
+  pub explained_is : Names (codes "explain") given.explained
+  pub from_is : Names (codes "from") given.from
+  pub to_is : Names (codes "to") given.to
+  pub around_is : Names (codes "around") given.around
+  pub rows_are : IsOptionalNumber rows rows_around given.rows
+  pub only_chain_is : IsFlagOf rows only_chain given.only_chain
+
+-- of a part of a history options name events by their numbers
+abbrev pub AreEventOptions : List Row → PartOptions EventId → Type 0
+AreEventOptions rows given = ArePartOptions rows (λ name event. IsOptionalEvent rows (event_number name) event) given
+
+-- what of a history is drawn: what these options say
+abbrev pub IsHistoryPart : List Row → DrawnPart EventId → Type 0
+IsHistoryPart rows drawn = (given : PartOptions EventId) × AreEventOptions rows given × SayPart given drawn
 
 -- stamps are packed and dotted
 abbrev pub AreTwoForms : List Row → Type 0
@@ -379,18 +394,14 @@ pub record AreWatchOptions (rows : List Row) (given : WatchOptions) : Type 0 whe
   pub keep_is : IsNumberOr rows keep USUAL_KEPT given.keep
   pub every_is : IsOptionalNumber rows every given.every
 
--- which rows of a log are drawn: those from one event to another, or as many about an event as are given, or 40
-abbrev pub AreLogRows : List Row → LogRows → Type 0
-AreLogRows rows (Between first last) =
-    IsOptionalLine rows first_line first × IsOptionalLine rows last_line last × IsLineLeftOut rows around_line × IsLeftOut rows rows_around
-AreLogRows rows (Around line n) =
-    IsLineOf rows around_line line × IsNumberOr rows rows_around USUAL_ROWS n × IsLineLeftOut rows first_line × IsLineLeftOut rows last_line
+-- of a part of a log options name events by the texts of their lines
+abbrev pub AreTextOptions : List Row → PartOptions (Bor Text) → Type 0
+AreTextOptions rows given = ArePartOptions rows (λ name text. first_of name rows ≡ option_map (λ t. t.now) text) given
 
--- what of a log is drawn: some rows, or with `--only-chain` no rows but the chain that is explained
-abbrev pub IsLogPart : List Row → LogPart → Type 0
-IsLogPart rows (Rows drawn explained) =
-    AreLogRows rows drawn × IsOptionalLine rows explained_line explained × IsFlagOf rows only_chain false
-IsLogPart rows (Chain line) = AreLogRows rows (Between None None) × IsLineOf rows explained_line line × IsFlagOf rows only_chain true
+-- what of a log is drawn: what these options say, by the lines that their texts tell
+abbrev pub IsLogPart : List Row → DrawnPart LogLine → Type 0
+IsLogPart rows drawn =
+    (given : PartOptions (Bor Text)) × (texts : DrawnPart (Bor Text)) × AreTextOptions rows given × SayPart given texts × TellPart texts drawn
 
 -- the options of `draw-log` are what was given
 pub record AreDrawLogOptions (rows : List Row) (given : DrawLogOptions) : Type 0 where
@@ -421,21 +432,15 @@ IsAuditMistake rows fault.Question = AsksNothing (texts_of_option rows ask)
 IsAuditMistake rows fault.Output = IsNoOutput rows
 IsAuditMistake rows f = IsRulesMistake rows f
 
--- what of a part of a history no order says: `--only-chain` is given without `--explain`, or with an event at which others begin or end
+-- what of a part of a history no order says: its options say nothing that can be drawn
 abbrev pub IsHistoryMistake : List Row → LineFault → Type 0
-IsHistoryMistake rows (fault.Part part.ChainOfNone) = IsFlagOf rows only_chain true × IsLeftOut rows explain
-IsHistoryMistake rows (fault.Part part.ChainAndRows) = IsFlagOf rows only_chain true × (IsGiven rows from ⊎ IsGiven rows to)
+IsHistoryMistake rows (fault.Part m) = (given : PartOptions EventId) × AreEventOptions rows given × SayNone given m
 IsHistoryMistake rows _ = ⊥
 
--- what of a part of a log no order says: `--rows` is given without `--around`, or this with `--from` or `--to`; or `--only-chain` without
--- `--explain`, or with an option of rows; or an option of a line has a text that tells none
+-- what of a part of a log no order says: an option of a line has a text that tells none, or the options say nothing that can be drawn
 abbrev pub IsPartMistake : List Row → PartMistake → Type 0
-IsPartMistake rows part.RowsAlone = IsGiven rows rows_around × IsLineLeftOut rows around_line
-IsPartMistake rows part.AroundBetween = IsLineGiven rows around_line × (IsLineGiven rows first_line ⊎ IsLineGiven rows last_line)
-IsPartMistake rows part.ChainOfNone = IsFlagOf rows only_chain true × IsLineLeftOut rows explained_line
-IsPartMistake rows part.ChainAndRows =
-    IsFlagOf rows only_chain true × (IsLineGiven rows around_line ⊎ (IsLineGiven rows first_line ⊎ IsLineGiven rows last_line))
 IsPartMistake rows (part.NoLine option) = IsLineOption option.now × TellsNoLine rows option.now
+IsPartMistake rows m = (given : PartOptions (Bor Text)) × AreTextOptions rows given × SayNone given m
 
 -- what of how a log is to be drawn no order says: no rules say how its records are read, or no part is drawn so
 abbrev pub IsLogMistake : List Row → LineFault → Type 0
@@ -471,7 +476,7 @@ IsAbove _ _ = ⊥
 
 -- an order asks for events that end before they begin
 abbrev pub IsTurned : Order → Type 0
-IsTurned (order.Draw settings (history.Events explained first last)) = IsAbove first last
+IsTurned (order.Draw settings (Rows (Between first last) explained)) = IsAbove first last
 IsTurned _ = ⊥
 
 -- the options of the subcommand of this name

@@ -1,8 +1,13 @@
 -- The lines by which options name events of a log.
 use Rattle.std.specs.Prelude.{◌≡◌, ◌==◌, ◌⊎◌, ⊤, List, Option, None, Some, codes, if◌then◌else◌}
+use Rattle.std.specs.Borrow.{Bor}
 use Rattle.clap.specs.Words.{Row, Text, first_of}
 use Rattle.hlc_log_text.specs.Question.{location_of_field}
 use Rattle.hlc_log_text.specs.declared.location.Location.{Location}
+use Rattle.hlc_command_line.specs.declared.drawn_part.DrawnPart.{DrawnPart}
+use Rattle.hlc_command_line.specs.declared.drawn_part.DrawnPart.TheVariants.{Chain, Rows}
+use Rattle.hlc_command_line.specs.declared.drawn_part.DrawnRows.{DrawnRows}
+use Rattle.hlc_command_line.specs.declared.drawn_part.DrawnRows.TheVariants.{Around, Between}
 use Rattle.hlc_command_line.specs.declared.line_fault.LineFault.{LineFault}
 use Rattle.hlc_command_line.specs.declared.line_fault.LineFault.TheVariants as fault
 use Rattle.hlc_command_line.specs.declared.line_fault.PartMistake.TheVariants as part
@@ -40,34 +45,41 @@ abbrev pub TellsLine : Text → LogLine → Type 0
 TellsLine text (Located location) = line_told text ≡ Some location
 TellsLine text (Counted number) = ⊥
 
--- the fault is that a text tells none, for the option of this name, or that memory was refused
-abbrev pub IsToldNone : Text → (name : Text) → LineFault → Type 0
-IsToldNone text name (fault.Part (part.NoLine option)) = (option.now ≡ name) × (line_told text ≡ None)
-IsToldNone text name fault.Memory = ⊤
-IsToldNone text name _ = ⊥
+-- so does one that may be left out, and those that name the events of some rows, or of what is drawn
+abbrev pub TellsOptional : Option (Bor Text) → Option LogLine → Type 0
+TellsOptional None None = ⊤
+TellsOptional (Some text) (Some line) = TellsLine text.now line
+TellsOptional _ _ = ⊥
 
--- an option is given a text, or left out
-abbrev pub IsLineGiven : List Row → (name : Text) → Type 0
-IsLineGiven rows name = (text : Text) × (first_of name rows ≡ Some text)
+abbrev pub TellRows : DrawnRows (Bor Text) → DrawnRows LogLine → Type 0
+TellRows (Between first last) (Between from to) = TellsOptional first from × TellsOptional last to
+TellRows (Around text number) (Around line rows) = TellsLine text.now line × (rows ≡ number)
+TellRows _ _ = ⊥
 
-abbrev pub IsLineLeftOut : List Row → (name : Text) → Type 0
-IsLineLeftOut rows name = first_of name rows ≡ None
+abbrev pub TellPart : DrawnPart (Bor Text) → DrawnPart LogLine → Type 0
+TellPart (Rows texts explained) (Rows rows line) = TellRows texts rows × TellsOptional explained line
+TellPart (Chain text) (Chain line) = TellsLine text.now line
+TellPart _ _ = ⊥
 
--- it names a line by its text
-abbrev pub IsLineOf : List Row → (name : Text) → LogLine → Type 0
-IsLineOf rows name line = (text : Text) × (first_of name rows ≡ Some text) × TellsLine text line
+-- the option of this name is given a text that tells no line, which may be this one
+abbrev pub TellsNone : Option (Bor Text) → (own name : Text) → Type 0
+TellsNone given own name = (text : Bor Text) × (given ≡ Some text) × (line_told text.now ≡ None) × (name ≡ own)
 
--- the same of an option that may be left out
-abbrev pub IsOptionalLine : List Row → (name : Text) → Option LogLine → Type 0
-IsOptionalLine rows name None = IsLineLeftOut rows name
-IsOptionalLine rows name (Some line) = IsLineOf rows name line
+-- so is it of one that names an event of some rows, or of what is drawn
+abbrev pub TellsNoRows : DrawnRows (Bor Text) → (name : Text) → Type 0
+TellsNoRows (Between first last) name = TellsNone first first_line name ⊎ TellsNone last last_line name
+TellsNoRows (Around text number) name = TellsNone (Some text) around_line name
 
--- it is given a text that tells no line
+abbrev pub TellsNoPart : DrawnPart (Bor Text) → (name : Text) → Type 0
+TellsNoPart (Rows texts explained) name = TellsNoRows texts name ⊎ TellsNone explained explained_line name
+TellsNoPart (Chain text) name = TellsNone (Some text) explained_line name
+
+-- the fault is that the option of some name tells no line so, or that memory was refused
+abbrev pub IsUntold : ((name : Text) → Type 0) → LineFault → Type 0
+IsUntold TellsNoLine (fault.Part (part.NoLine option)) = TellsNoLine option.now
+IsUntold TellsNoLine fault.Memory = ⊤
+IsUntold TellsNoLine _ = ⊥
+
+-- the option of this name is given a text that tells no line
 abbrev pub TellsNoLine : List Row → (name : Text) → Type 0
 TellsNoLine rows name = (text : Text) × (first_of name rows ≡ Some text) × (line_told text ≡ None)
-
--- the fault is that, or that memory was refused
-abbrev pub IsNoLine : List Row → (name : Text) → LineFault → Type 0
-IsNoLine rows name (fault.Part (part.NoLine option)) = (option.now ≡ name) × TellsNoLine rows name
-IsNoLine rows name fault.Memory = ⊤
-IsNoLine rows name _ = ⊥

@@ -10,8 +10,8 @@ use clap::ArgMatches;
 use hlc_log_text::{LogQuestion, question_of};
 use std::alloc::Global;
 
-// What the values of `--ask` ask.
-fn questions(alloc: Global, values: &[&str]) -> Result<Vec<LogQuestion>, LineFault>
+/// What the values of `--ask` ask.
+pub fn questions(alloc: Global, values: &[&str]) -> Result<Vec<LogQuestion>, LineFault>
     ensures asked { IfOk result (λ asked. AreAsked (texts values.now) asked.items) }
     ensures other { IfErr result (IsNoQuestion (texts values.now)) }
 {

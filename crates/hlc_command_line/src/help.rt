@@ -34,6 +34,8 @@ A record is a row of CSV:
   check,EVENT,FIRST,..,EVENT      whether the events after the first field explain the stamp of EVENT
   relation,EVENT,OTHER            whether EVENT happened before OTHER, after it, or neither
   influenced,EVENT                the events that EVENT happened before
+  why,EVENT,OTHER                 how OTHER came to know of EVENT: a shortest path of direct predecessors
+  tainted,EVENT                   the events whose stamps would be lower if the clock of EVENT had read 0
   drift,NODE                      how far the stamps of NODE ran ahead of its clock, and why
   snapshot,L,C,NODE               what NODE knows from its events with stamps of at most (L, C)
 
@@ -49,8 +51,9 @@ pub const PICTURE: &str = "\
 The script is that of `hlc run`. Time runs down: each node has a lane, each event a dot on it with its number, and beside the dots
 a row. An arrow runs from a send to each delivery of its message. With `--explain E` the chain is marked that `explain,E` answers.
 
-The picture has the events from F to T, at most 500 if T isn't given. With `--only-chain` it has nothing but the chain that `--explain`
-names, with a row for how many events lie between two of it. If there is no event E, it says so, and the status is 1.
+The picture has the events from F to T, at most 500 if T isn't given. With `--around A` it has the N rows about event A, as many above it
+as below if there are so many, and 40 if `--rows` isn't given. With `--only-chain` it has nothing but the chain that `--explain` names, with
+a row for how many events lie between two of it. If there is no event E, F or A, it says so, and the status is 1.
 
 Example:
   echo 'write,0,10,cart,apples' | hlc draw --nodes 2 --capacity 16 > cart.svg
@@ -142,9 +145,10 @@ written, is named besides, and so is a message that is sent twice or isn't sent.
 status is 4.
 
 Questions, as records of the log or each by `--ask`, are answered in place of that, or after it with `--report`:
-  explain,LINE  check,LINE,LINE..  relation,LINE,LINE  influenced,LINE  drift,NODE   as `hlc run` does, by lines
+  explain,LINE  check,LINE,LINE..  relation,LINE,LINE  influenced,LINE  why,LINE,LINE  tainted,LINE  drift,NODE   as `hlc run` does, by lines
   claimed,LINE                       the claimed stamp, and the lines by which its L came
   event,LINE                         what is known of the event
+  first,NODE,RULE                    the line of NODE's first event with a cause of this RULE: `behind`, `not-above`, `ahead` or `carried`
 
 Example:
   printf 'local,a,10,10,0\\nlocal,a,10,11,0\\n' | hlc audit

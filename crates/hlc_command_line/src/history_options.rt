@@ -3,32 +3,38 @@
 ghost use Rattle.std.specs.Prelude.{IfErr, IfOk};
 ghost use Rattle.clap.specs.Words.{found_of, rows_of};
 ghost use Rattle.hlc_command_line.specs.LineOption.{HaveOptions};
-ghost use Rattle.hlc_command_line.specs.Line.{IsHistoryMistake, IsHistoryPart, history_options};
+ghost use Rattle.hlc_command_line.specs.Line.{AreEventOptions, IsHistoryMistake, IsHistoryPart, history_options};
 
-use crate::line_fault::{LineFault, PartMistake};
-use crate::line_order::HistoryPart;
-use crate::option_value::{event, flag};
+use crate::drawn_part::DrawnPart;
+use crate::line_fault::LineFault;
+use crate::option_value::{event, flag, positive};
+use crate::part_options::PartOptions;
 use clap::ArgMatches;
+use hlc_stamp::EventId;
+
+// What the options are given.
+fn event_options(options: &ArgMatches<'_>) -> PartOptions<EventId>
+    requires { HaveOptions (rows_of (found_of options.now)) history_options }
+    ensures { AreEventOptions (rows_of (found_of options.now)) result }
+{
+    PartOptions {
+        explained: event(options, "explain"),
+        from: event(options, "from"),
+        to: event(options, "to"),
+        around: event(options, "around"),
+        rows: positive(options, "rows"),
+        only_chain: flag(options, "only-chain"),
+    }
+}
 
 // What of a history is drawn.
-pub(crate) fn history_part(options: &ArgMatches<'_>) -> Result<HistoryPart, LineFault>
+pub(crate) fn history_part(options: &ArgMatches<'_>) -> Result<DrawnPart<EventId>, LineFault>
     requires { HaveOptions (rows_of (found_of options.now)) history_options }
     ensures found { IfOk result (IsHistoryPart (rows_of (found_of options.now))) }
     ensures mistaken { IfErr result (IsHistoryMistake (rows_of (found_of options.now))) }
 {
-    let explained = event(options, "explain");
-    let from = event(options, "from");
-    let to = event(options, "to");
-    if !flag(options, "only-chain") {
-        return Ok(HistoryPart::Events {
-            explained,
-            from,
-            to,
-        });
-    }
-    match (explained, from, to) {
-        (Some(event), None, None) => Ok(HistoryPart::Chain { event }),
-        (Some(_), _, _) => Err(LineFault::Part(PartMistake::ChainAndRows)),
-        (None, _, _) => Err(LineFault::Part(PartMistake::ChainOfNone)),
+    match event_options(options).drawn_part() {
+        Ok(part) => Ok(part),
+        Err(mistake) => Err(LineFault::Part(mistake)),
     }
 }

@@ -15,8 +15,8 @@ use clap::ArgMatches;
 use hlc_json_lines::JsonRules;
 use std::alloc::Global;
 
-// Adds what the values of `--field` say.
-fn add_fields(alloc: Global, rules: &mut JsonRules, values: &[&str]) -> Result<(), LineFault>
+/// Adds what the values of `--field` say.
+pub fn add_fields(alloc: Global, rules: &mut JsonRules, values: &[&str]) -> Result<(), LineFault>
     ensures added { OnOk result (AddPaths (texts values.now) rules.old rules.new) }
     ensures other { IfErr result (IsNoPath (texts values.now)) }
 {
@@ -28,8 +28,8 @@ fn add_fields(alloc: Global, rules: &mut JsonRules, values: &[&str]) -> Result<(
     Ok(())
 }
 
-// Adds what the values of `--kind` say.
-fn add_kinds(alloc: Global, rules: &mut JsonRules, values: &[&str]) -> Result<(), LineFault>
+/// Adds what the values of `--kind` say.
+pub fn add_kinds(alloc: Global, rules: &mut JsonRules, values: &[&str]) -> Result<(), LineFault>
     ensures added { OnOk result (AddKinds (texts values.now) rules.old rules.new) }
     ensures other { IfErr result (IsNoKind (texts values.now)) }
 {

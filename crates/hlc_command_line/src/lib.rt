@@ -5,10 +5,11 @@
 //!
 //! - `order` reads the arguments.
 //! - `Order` is what they ask for, one variant for each subcommand; `AuditOptions` is what `audit` is given, `WatchOptions` what `watch` is, and
-//!   `DrawLogOptions` what `draw-log` is, with how lines of JSON are read, if the log has them. `HistoryPart` and `LogPart` say what of a history or a log is
-//!   drawn, this by the lines of events (`LogLine`).
+//!   `DrawLogOptions` what `draw-log` is, with how lines of JSON are read, if the log has them. `DrawnPart` says what of a history or a log is drawn, whatever
+//!   names its events: of a history they are named by their numbers, of a log by their lines (`LogLine`).
 //! - `LineFault` is a mistake in the arguments, or a text that they ask for, such as the help.
 //! - `hint_for` says what else the user is told of arguments that are refused: a range of numbers, or where a log is read from.
+//! - `add_fields`, `add_kinds` and `questions` read the texts of options that may be given more than once, also for a caller who has them from elsewhere.
 //!
 //! It carries nothing out and prints nothing: `hlc_cli` hands the order to the crates of commands.
 //!
@@ -32,6 +33,7 @@
 
 mod asked;
 mod cluster_options;
+mod drawn_part;
 mod fault_option;
 mod help;
 mod hint;
@@ -47,15 +49,18 @@ mod log_part;
 mod number_signs;
 mod option_rule;
 mod option_value;
+mod part_options;
 mod resent_option;
 mod subcommand_rule;
 mod unit_options;
 mod watch_options;
 
+pub use asked::questions;
+pub use drawn_part::{DrawnPart, DrawnRows, USUAL_ROWS};
 pub use hint::{Hint, hint_for, sign_hint};
+pub use json_options::{add_fields, add_kinds};
 pub use line::order;
 pub use line_fault::{LineFault, PartMistake, RecordsMistake};
 pub use line_order::{
-    AuditOptions, DrawLogOptions, HistoryPart, LogLine, LogPart, LogRows, Order, OutputForm,
-    USUAL_KEPT, USUAL_ROWS, WatchOptions,
+    AuditOptions, DrawLogOptions, LogLine, Order, OutputForm, USUAL_KEPT, WatchOptions,
 };

@@ -8,11 +8,12 @@ ghost use Rattle.hlc_command_line.specs.Line.{HasOptions, IsAbove, IsAuditMistak
 
 use crate::asked::asked_questions;
 use crate::cluster_options::{Seeded, seeded_numbers, settings};
+use crate::drawn_part::{DrawnPart, DrawnRows};
 use crate::history_options::history_part;
 use crate::json_options::json_rules;
 use crate::line_command::line_command;
 use crate::line_fault::LineFault;
-use crate::line_order::{HistoryPart, Order};
+use crate::line_order::Order;
 use crate::log_options::{audit_options, log_rules};
 use crate::log_part::draw_log_options;
 use crate::number_signs::{number_names, signed_option};
@@ -156,7 +157,10 @@ fn is_turned(order: &Order) -> bool
 {
     match order {
         Order::Draw {
-            part: HistoryPart::Events { from, to, .. },
+            part: DrawnPart::Rows {
+                rows: DrawnRows::Between { from, to },
+                ..
+            },
             ..
         } => is_above(*from, *to),
         _ => false,

@@ -1,5 +1,6 @@
 ghost use Rattle.std.specs.Prelude.{◌<◌};
 
+use crate::drawn_part::DrawnPart;
 use hlc_json_lines::JsonRules;
 use hlc_log_text::{Location, LogQuestion, LogRules};
 use hlc_stamp::{EventId, Settings};
@@ -51,9 +52,6 @@ pub struct WatchOptions {
     pub ghost some_kept: { 0 < keep },
 }
 
-/// How many rows about an event are drawn if no other number is given.
-pub const USUAL_ROWS: u32 = 40;
-
 /// How a line of a log is named.
 #[derive(Debug, Drop)]
 pub enum LogLine {
@@ -63,68 +61,13 @@ pub enum LogLine {
     Counted(u32),
 }
 
-/// Which rows of a log are drawn. Events are named by their lines.
-#[derive(Debug, Drop)]
-pub enum LogRows {
-    /// Those from one event to another.
-    Between {
-        /// The line of the first event, if it isn't the first of all.
-        from: Option<LogLine>,
-        /// The line of the last event, if one is named.
-        to: Option<LogLine>,
-    },
-    /// Those about an event.
-    Around {
-        /// The event's line.
-        line: LogLine,
-        /// How many rows at most.
-        rows: u32,
-    },
-}
-
-/// What of a log is drawn. Events are named by their lines.
-#[derive(Debug, Drop)]
-pub enum LogPart {
-    /// Some of its rows.
-    Rows {
-        /// Which ones.
-        rows: LogRows,
-        /// The line of the event whose chain is to be marked, if there is one.
-        explained: Option<LogLine>,
-    },
-    /// The chain that explains the stamp of an event, and nothing else.
-    Chain {
-        /// The event's line.
-        line: LogLine,
-    },
-}
-
 /// How a log is read, and what of it is drawn.
 #[derive(Debug, Drop)]
 pub struct DrawLogOptions {
     /// How its records are read.
     pub records: LogRules,
-    /// What of the log is drawn.
-    pub part: LogPart,
-}
-
-/// What of a history is drawn.
-#[derive(Clone, Copy, Debug)]
-pub enum HistoryPart {
-    /// Its events from one to another.
-    Events {
-        /// The event whose chain is to be marked, if there is one.
-        explained: Option<EventId>,
-        /// The first event that is drawn, if it isn't the first of all.
-        from: Option<EventId>,
-        /// The last event that is drawn, if one is named.
-        to: Option<EventId>,
-    },
-    /// The chain that explains the stamp of an event, and nothing else.
-    Chain {
-        /// The event.
-        event: EventId,
-    },
+    /// What of the log is drawn, whose events are named by their lines.
+    pub part: DrawnPart<LogLine>,
 }
 
 /// What a command line asks of the program.
@@ -137,7 +80,7 @@ pub enum Order {
         /// The settings of the cluster that answers the script.
         settings: Settings,
         /// What of the history is drawn.
-        part: HistoryPart,
+        part: DrawnPart<EventId>,
     },
     /// Write the history that a script leaves as a log.
     Trace {

@@ -2,7 +2,7 @@
 
 ghost use Rattle.std.specs.Prelude.{◌≡◌, IfErr, IfOk, option_map};
 ghost use Rattle.clap.specs.Words.{first_of, found_of, rows_of};
-ghost use Rattle.hlc_command_line.specs.LogLine.{IsNoLine, IsOptionalLine, IsToldNone, TellsLine, line_told};
+ghost use Rattle.hlc_command_line.specs.LogLine.{IsUntold, TellsLine, TellsNone, TellsOptional, line_told};
 
 use crate::line_fault::{LineFault, PartMistake};
 use crate::line_order::LogLine;
@@ -30,7 +30,7 @@ fn line_told(alloc: Global, text: &str) -> Result<Option<Location>, AllocError>
 // The line that a text tells, for the option of this name.
 pub(crate) fn log_line(alloc: Global, name: &'static str, text: &str) -> Result<LogLine, LineFault>
     ensures found { IfOk result (TellsLine text.now) }
-    ensures mistaken { IfErr result (IsToldNone text.now name.now) }
+    ensures mistaken { IfErr result (IsUntold (TellsNone (Some text.entry) name.now)) }
 {
     match line_told(alloc, text)? {
         Some(location) => Ok(LogLine::Located(location)),
@@ -38,16 +38,16 @@ pub(crate) fn log_line(alloc: Global, name: &'static str, text: &str) -> Result<
     }
 }
 
-// The line that an option names, if it is given.
+// The same if there is a text.
 pub(crate) fn optional_line(
     alloc: Global,
-    options: &ArgMatches<'_>,
     name: &'static str,
+    text: Option<&str>,
 ) -> Result<Option<LogLine>, LineFault>
-    ensures found { IfOk result (IsOptionalLine (rows_of (found_of options.now)) name.now) }
-    ensures mistaken { IfErr result (IsNoLine (rows_of (found_of options.now)) name.now) }
+    ensures found { IfOk result (TellsOptional text.entry) }
+    ensures mistaken { IfErr result (IsUntold (TellsNone text.entry name.now)) }
 {
-    match given(options, name) {
+    match text {
         Some(text) => Ok(Some(log_line(alloc, name, text)?)),
         None => Ok(None),
     }

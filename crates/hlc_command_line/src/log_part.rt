@@ -1,88 +1,79 @@
 // The options of a log's picture.
 
-ghost use Rattle.std.specs.Prelude.{IfErr, IfOk, true};
+ghost use Rattle.std.specs.Prelude.{IfErr, IfOk};
 ghost use Rattle.clap.specs.Words.{found_of, rows_of};
-ghost use Rattle.hlc_command_line.specs.LineOption.{HaveOptions, IsFlagOf};
-ghost use Rattle.hlc_command_line.specs.LogLine.{IsLineLeftOut, around_line};
-ghost use Rattle.hlc_command_line.specs.NumberOption.{IsLeftOut};
-ghost use Rattle.hlc_command_line.specs.Line.{AreDrawLogOptions, AreLogRows, IsLogMistake, IsLogPart, UnlessMemory, draw_log_options, only_chain, part_options, rows_around};
+ghost use Rattle.hlc_command_line.specs.LineOption.{HaveOptions};
+ghost use Rattle.hlc_command_line.specs.LogLine.{IsUntold, TellPart, TellRows, TellsNoPart, TellsNoRows};
+ghost use Rattle.hlc_command_line.specs.Line.{AreDrawLogOptions, AreTextOptions, IsLogMistake, IsLogPart, UnlessMemory, draw_log_options, part_options};
 
-use crate::line_fault::{LineFault, PartMistake};
-use crate::line_order::{DrawLogOptions, LogPart, LogRows, USUAL_ROWS};
+use crate::drawn_part::{DrawnPart, DrawnRows};
+use crate::line_fault::LineFault;
+use crate::line_order::{DrawLogOptions, LogLine};
 use crate::log_line::{given, log_line, optional_line};
 use crate::log_options::log_rules;
 use crate::option_value::{flag, positive};
+use crate::part_options::PartOptions;
 use clap::ArgMatches;
 use std::alloc::Global;
 
-// The rows from one event to another, if nothing is said of rows about one.
-fn rows_between(alloc: Global, options: &ArgMatches<'_>) -> Result<LogRows, LineFault>
-    requires around { IsLineLeftOut (rows_of (found_of options.now)) around_line }
-    requires rows { IsLeftOut (rows_of (found_of options.now)) rows_around }
-    ensures found { IfOk result (AreLogRows (rows_of (found_of options.now))) }
-    ensures mistaken { IfErr result (UnlessMemory (IsLogMistake (rows_of (found_of options.now)))) }
-{
-    let from = optional_line(alloc, options, "from")?;
-    let to = optional_line(alloc, options, "to")?;
-    Ok(LogRows::Between { from, to })
-}
-
-// Which rows of a log are drawn.
-fn log_rows(alloc: Global, options: &ArgMatches<'_>) -> Result<LogRows, LineFault>
+// What the options are given. Events are named by the texts of their lines.
+fn text_options<'a>(options: &'a ArgMatches<'_>) -> PartOptions<&'a str>
     requires { HaveOptions (rows_of (found_of options.now)) part_options }
-    ensures found { IfOk result (AreLogRows (rows_of (found_of options.now))) }
-    ensures mistaken { IfErr result (UnlessMemory (IsLogMistake (rows_of (found_of options.now)))) }
+    ensures { AreTextOptions (rows_of (found_of options.now)) result }
 {
-    let from = given(options, "from");
-    let to = given(options, "to");
-    let rows = positive(options, "rows");
-    match (given(options, "around"), from, to) {
-        (Some(text), None, None) => Ok(LogRows::Around {
-            line: log_line(alloc, "around", text)?,
-            rows: rows.unwrap_or(USUAL_ROWS),
-        }),
-        (Some(_), _, _) => Err(LineFault::Part(PartMistake::AroundBetween)),
-        (None, _, _) => match rows {
-            None => rows_between(alloc, options),
-            Some(_) => Err(LineFault::Part(PartMistake::RowsAlone)),
-        },
+    PartOptions {
+        explained: given(options, "explain"),
+        from: given(options, "from"),
+        to: given(options, "to"),
+        around: given(options, "around"),
+        rows: positive(options, "rows"),
+        only_chain: flag(options, "only-chain"),
     }
 }
 
-// The chain that is drawn alone.
-fn log_chain(alloc: Global, options: &ArgMatches<'_>) -> Result<LogPart, LineFault>
-    requires options { HaveOptions (rows_of (found_of options.now)) part_options }
-    requires alone { IsFlagOf (rows_of (found_of options.now)) only_chain true }
-    ensures found { IfOk result (IsLogPart (rows_of (found_of options.now))) }
-    ensures mistaken { IfErr result (UnlessMemory (IsLogMistake (rows_of (found_of options.now)))) }
+// The rows, by the lines that the texts tell.
+fn log_rows(alloc: Global, texts: DrawnRows<&str>) -> Result<DrawnRows<LogLine>, LineFault>
+    ensures found { IfOk result (TellRows texts.entry) }
+    ensures mistaken { IfErr result (IsUntold (TellsNoRows texts.entry)) }
 {
-    let around = given(options, "around");
-    let from = given(options, "from");
-    let to = given(options, "to");
-    match (given(options, "explain"), around, from, to) {
-        (Some(text), None, None, None) => match positive(options, "rows") {
-            None => Ok(LogPart::Chain {
-                line: log_line(alloc, "explain", text)?,
-            }),
-            Some(_) => Err(LineFault::Part(PartMistake::RowsAlone)),
-        },
-        (Some(_), _, _, _) => Err(LineFault::Part(PartMistake::ChainAndRows)),
-        (None, _, _, _) => Err(LineFault::Part(PartMistake::ChainOfNone)),
+    match texts {
+        DrawnRows::Between { from, to } => Ok(DrawnRows::Between {
+            from: optional_line(alloc, "from", from)?,
+            to: optional_line(alloc, "to", to)?,
+        }),
+        DrawnRows::Around { event, rows } => Ok(DrawnRows::Around {
+            event: log_line(alloc, "around", event)?,
+            rows,
+        }),
+    }
+}
+
+// What is drawn, by the lines that the texts tell.
+fn lines_of_part(alloc: Global, texts: DrawnPart<&str>) -> Result<DrawnPart<LogLine>, LineFault>
+    ensures found { IfOk result (TellPart texts.entry) }
+    ensures mistaken { IfErr result (IsUntold (TellsNoPart texts.entry)) }
+{
+    match texts {
+        DrawnPart::Rows { rows, explained } => Ok(DrawnPart::Rows {
+            rows: log_rows(alloc, rows)?,
+            explained: optional_line(alloc, "explain", explained)?,
+        }),
+        DrawnPart::Chain { event } => Ok(DrawnPart::Chain {
+            event: log_line(alloc, "explain", event)?,
+        }),
     }
 }
 
 // What of a log is drawn.
-fn log_part(alloc: Global, options: &ArgMatches<'_>) -> Result<LogPart, LineFault>
+fn log_part(alloc: Global, options: &ArgMatches<'_>) -> Result<DrawnPart<LogLine>, LineFault>
     requires { HaveOptions (rows_of (found_of options.now)) part_options }
     ensures found { IfOk result (IsLogPart (rows_of (found_of options.now))) }
     ensures mistaken { IfErr result (UnlessMemory (IsLogMistake (rows_of (found_of options.now)))) }
 {
-    if flag(options, "only-chain") {
-        return log_chain(alloc, options);
+    match text_options(options).drawn_part() {
+        Ok(texts) => lines_of_part(alloc, texts),
+        Err(mistake) => Err(LineFault::Part(mistake)),
     }
-    let rows = log_rows(alloc, options)?;
-    let explained = optional_line(alloc, options, "explain")?;
-    Ok(LogPart::Rows { rows, explained })
 }
 
 // The options of `draw-log`.

@@ -10,7 +10,7 @@ ghost use Rattle.hlc_command_line.specs.NumberOption.{IsSigned, IsSignedAmong};
 use clap::ArgMatches;
 
 // The options that take numbers.
-static ALL_NUMBERS: [&str; 13] = [
+static ALL_NUMBERS: [&str; 14] = [
     "nodes",
     "capacity",
     "limit",
@@ -19,6 +19,7 @@ static ALL_NUMBERS: [&str; 13] = [
     "explain",
     "from",
     "to",
+    "around",
     "rows",
     "packed",
     "tolerance",

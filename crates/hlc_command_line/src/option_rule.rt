@@ -115,6 +115,16 @@ pub(crate) const TO: OptionRule = OptionRule {
     },
 };
 
+pub(crate) const AROUND: OptionRule = OptionRule {
+    name: "around",
+    text: "The event about which rows are drawn",
+    takes: Takes::One {
+        value: "A",
+        parser: EVENT_NUMBER,
+        required: false,
+    },
+};
+
 // What an option of an event's line takes. `LINE` in its help stands for `NAME:LINE` too.
 const EVENT_LINE: Takes = Takes::One {
     value: "LINE",

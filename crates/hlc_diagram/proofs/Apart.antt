@@ -6,7 +6,7 @@ use Rattle.std.proofs.lemmas.Bool.Decides.{nat_tests}
 use Rattle.hlc_causality.specs.Causality.{skeleton_at}
 use Rattle.hlc_figures.specs.Columns.{lane_distance}
 use Rattle.hlc_figures.specs.Content.{Content, node_at}
-use Rattle.hlc_figures.specs.Figure.{arrow_between, first_after, is_left, turn_distance}
+use Rattle.hlc_figures.specs.Figure.{arrow_between, delivery_after, is_left, side_distance, turn_distance}
 use Rattle.hlc_figures.specs.Lanes.{lane_at, lane_of}
 use Rattle.hlc_svg.specs.Frame.{aside, x_of}
 use Rattle.hlc_diagram.specs.Laws.{ArrowsKeepClear, BorderArrowsKeepClear, LanesAreApart}
@@ -23,8 +23,8 @@ use Rattle.hlc_svg.specs.declared.shapes.End.{End}
 use Rattle.hlc_svg.specs.declared.shapes.Point.{Point}
 use Rattle.hlc_diagram.specs.declared.view.View.{View}
 use Rattle.hlc_svg.proofs.Clear.{IsInGap, StandsAt, left_of_lane, line_in_gap, next_lane, path_keeps_clear, right_of_lane}
-use Rattle.hlc_diagram.proofs.Crossings.{end_from, end_to, entering, entering_at, entering_kinds, entering_more, later_first, leaving, leaving_at, leaving_kinds, leaving_more, turn_room}
-use Rattle.hlc_diagram.proofs.Drawn.{arrow, arrow_kinds, arrows, arrows_more, count, dot, dot_is, first, frame, lanes}
+use Rattle.hlc_diagram.proofs.Crossings.{end_from, end_to, entering, entering_at, entering_kinds, entering_more, later_first, leaving, leaving_at, leaving_kinds, leaving_more, side_room, turn_room}
+use Rattle.hlc_diagram.proofs.Drawn.{arrow, arrow_kinds, arrows, arrows_more, count, dot, dot_is, first, frame, lanes, reach_room}
 use Rattle.hlc_diagram.proofs.Laned.{lane_rises, mapped}
 use Rattle.hlc_figures.proofs.NumberedDots.{left_arrows_have_room}
 use Rattle.hlc_figures.proofs.Placed.{made_of}
@@ -32,6 +32,9 @@ use Rattle.hlc_figures.proofs.Placed.{made_of}
 -- lanes have room for a dot
 pub room : (half : ℕ) → 2 * half < lane_distance half
 room half = omega arith
+
+pub room_for_two : (half : ℕ) → half + half ≤ lane_distance half
+room_for_two half = omega arith
 
 pub around_room : (half : ℕ) → half + AROUND + half ≤ lane_distance half
 around_room half = omega arith
@@ -43,7 +46,8 @@ module _ (c : Content) (view : View) where
   between_dots : (s f e : ℕ) → KeepsClear (dot c view e) (path_of (arrow_between c view.explained (frame c view) (lanes c view) s f).route)
   between_dots s f e =
       let a = (arrow_between c view.explained (frame c view) (lanes c view) s f).route in
-      path_keeps_clear a (room (frame c view).half) (around_room (frame c view).half) (dot c view e) (lane_at c (lanes c view) e) e (stands e)
+      let ends = reach_room (c.look f) (frame c view).half in
+      path_keeps_clear a (room (frame c view).half) (around_room (frame c view).half) ends.0 ends.1 (dot c view e) (lane_at c (lanes c view) e) e (stands e)
 
 pub arrows_keep_clear : ArrowsKeepClear
 arrows_keep_clear c view a d among there =
@@ -62,63 +66,69 @@ module _ (c : Content) (view : View) (border : Border) (e other : ℕ) where
   abbrev lane : ℕ
   lane = lane_at c (lanes c view) e
 
+  abbrev near : ℕ
+  near = side_distance border (c.look e) (frame c view).half
+
   abbrev turn : ℕ
   turn = turn_distance border (frame c view).half
 
   -- on a side the dot ends and the arrow turns in the gap to the next lane
-  right_gap : (gap : ℕ) × IsInGap (frame c view) gap (aside (frame c view) lane false (frame c view).half) ×
+  right_gap : (gap : ℕ) × IsInGap (frame c view) gap (aside (frame c view) lane false near) ×
       IsInGap (frame c view) gap (aside (frame c view) lane false turn)
   right_gap =
       let half = (frame c view).half in
       let fits = turn_room border (frame c view).half in
-      let wide : half ≤ half = omega arith in
+      let close = side_room border (c.look e) (frame c view).half in
       let wide_turn : half ≤ turn = fits.0 in
       let narrow_turn : turn + half ≤ (frame c view).lane_distance = fits.1 in
-      let narrow : half + half ≤ (frame c view).lane_distance = omega arith in
+      let narrow : near + half ≤ (frame c view).lane_distance = omega (arith, close.1) in
       let le : lane ≤ lane = omega arith in
       let test : nat_lt lane lane ≡ false = grind (arith, nat_tests) in
-      let side = right_of_lane (frame c view) lane lane lane half wide narrow le refl in
+      let side = right_of_lane (frame c view) lane lane lane near close.0 narrow le refl in
       let turned = right_of_lane (frame c view) lane lane lane turn wide_turn narrow_turn le refl in (
         lane,
-        subst (λ (left : Bool). IsInGap (frame c view) lane (aside (frame c view) lane left (frame c view).half)) test side,
+        subst (λ (left : Bool). IsInGap (frame c view) lane (aside (frame c view) lane left near)) test side,
         subst (λ (left : Bool). IsInGap (frame c view) lane (aside (frame c view) lane left turn)) test turned,
       )
 
-  left_gap : 0 < lane → (gap : ℕ) × IsInGap (frame c view) gap (aside (frame c view) lane true (frame c view).half) ×
+  left_gap : 0 < lane → (gap : ℕ) × IsInGap (frame c view) gap (aside (frame c view) lane true near) ×
       IsInGap (frame c view) gap (aside (frame c view) lane true turn)
   left_gap some =
       let half = (frame c view).half in
       let fits = turn_room border (frame c view).half in
-      let wide : half ≤ half = omega arith in
+      let close = side_room border (c.look e) (frame c view).half in
       let wide_turn : half ≤ turn = fits.0 in
       let narrow_turn : turn + half ≤ (frame c view).lane_distance = fits.1 in
-      let narrow : half + half ≤ (frame c view).lane_distance = omega arith in
+      let narrow : near + half ≤ (frame c view).lane_distance = omega (arith, close.1) in
       let lt : lane - 1 < lane = omega arith in
       let next : lane - 1 + 1 ≡ lane = omega arith in
       let test : nat_lt (lane - 1) lane ≡ true = grind (arith, nat_tests, lt) in
-      let side = left_of_lane (frame c view) lane (lane - 1) (lane - 1) half wide narrow lt next in
+      let side = left_of_lane (frame c view) lane (lane - 1) (lane - 1) near close.0 narrow lt next in
       let turned = left_of_lane (frame c view) lane (lane - 1) (lane - 1) turn wide_turn narrow_turn lt next in (
         lane - 1,
-        subst (λ (left : Bool). IsInGap (frame c view) (lane - 1) (aside (frame c view) lane left (frame c view).half)) test side,
+        subst (λ (left : Bool). IsInGap (frame c view) (lane - 1) (aside (frame c view) lane left near)) test side,
         subst (λ (left : Bool). IsInGap (frame c view) (lane - 1) (aside (frame c view) lane left turn)) test turned,
       )
 
   -- or before the first lane, if that isn't the lane of node 0
-  before_first : lane ≡ 0 → node_at c other < node_at c e → IsBeforeLanes (frame c view) (aside (frame c view) lane true (frame c view).half) ×
+  before_first : lane ≡ 0 → node_at c other < node_at c e → IsBeforeLanes (frame c view) (aside (frame c view) lane true near) ×
       IsBeforeLanes (frame c view) (aside (frame c view) lane true turn)
   before_first first lower =
       let half = (frame c view).half in
       let fits = turn_room border (frame c view).half in
-      let wide_turn : half ≤ turn = fits.0 in
+      let close = side_room border (c.look e) (frame c view).half in
+      let wide_near : half ≤ near = close.0 in
+      let wide_turn : near ≤ turn = close.1 in
+      let wide : half ≤ turn = fits.0 in
       let later = later_first c view e other first lower in
       let room : turn < (frame c view).first_lane = left_arrows_have_room (lanes c view) (frame c view).half border later in
       let at : x_of (frame c view) lane ≡ x_of (frame c view) 0 = ap (λ (n : ℕ). x_of (frame c view) n) first in
       (omega arith, omega arith)
 
   clear_side :
-      ((gap : ℕ) × IsInGap (frame c view) gap (aside (frame c view) lane (is_left c e other) (frame c view).half)
+      ((gap : ℕ) × IsInGap (frame c view) gap (aside (frame c view) lane (is_left c e other) near)
       × IsInGap (frame c view) gap (aside (frame c view) lane (is_left c e other) turn))
-      ⊎ (IsBeforeLanes (frame c view) (aside (frame c view) lane (is_left c e other) (frame c view).half)
+      ⊎ (IsBeforeLanes (frame c view) (aside (frame c view) lane (is_left c e other) near)
       × IsBeforeLanes (frame c view) (aside (frame c view) lane (is_left c e other) turn))
   clear_side =
       elim (cases_Bool (is_left c e other)) [
@@ -166,7 +176,7 @@ border_arrows_keep_clear c view end d among there =
       | inr leaves ↦
           let made = made_of (leaving c view) (leaving_at c view) refl (leaving_more c view) (first c view) (count c view) end leaves in
           let s = made.0 in
-          let is = leaving_kinds c view.explained (frame c view) (lanes c view) s (first_after c (frame c view) s) end made.3 in
+          let is = leaving_kinds c view.explained (frame c view) (lanes c view) s (delivery_after c view.explained (frame c view) s) end made.3 in
           subst (λ (end : End). KeepsClear (dot c view at.0) (course_of end)) is.2 (arrow_leaves_clear c view s is.0 at.0)
     ])
 

@@ -21,6 +21,8 @@ use Rattle.hlc_svg.specs.Frame.{x_of}
 use Rattle.hlc_svg.specs.Clear.{KeepsClear}
 use Rattle.hlc_svg.specs.Path.{path_of}
 use Rattle.hlc_svg.specs.declared.arrow.Arrow.{Arrow}
+use Rattle.hlc_svg.specs.Shapes.{reach_of}
+use Rattle.hlc_svg.specs.declared.look.Look.{Look}
 use Rattle.hlc_svg.specs.declared.route.TheConstants.{AROUND}
 use Rattle.hlc_figures.specs.declared.chain_rows.ChainRow.{ChainRow}
 use Rattle.hlc_figures.specs.declared.chain_rows.ChainRow.TheVariants.{Between, Event}
@@ -30,6 +32,7 @@ use Rattle.hlc_svg.specs.declared.dot.Dot.{Dot}
 use Rattle.hlc_svg.specs.declared.frame.Frame.{Frame}
 use Rattle.hlc_figures.proofs.Chains.{chosen_rises}
 use Rattle.hlc_figures.proofs.Links.{chosen_exists, clock_size}
+use Rattle.hlc_diagram.proofs.Drawn.{reach_room}
 use Rattle.hlc_diagram.proofs.Laned.{event_has_lane, lane_has_event, mapped, mapped_there}
 use Rattle.hlc_svg.proofs.Clear.{StandsAt, path_keeps_clear}
 use Rattle.hlc_figures.proofs.Placed.{in_one, one_part}
@@ -105,15 +108,17 @@ module _ (c : Content) (frame : Frame) (lanes : List ℕ) where
   stands : (at : Standing) → StandsAt frame (dot_in c frame lanes at) (lane_at c lanes at.event.0) (frame.first + at.row)
   stands at = record { half = refl; lane = refl; row = omega arith }
 
-  keeps_clear : (room : 2 * frame.half < frame.lane_distance) (around : frame.half + AROUND + frame.half ≤ frame.lane_distance) (rows : List ChainRow)
+  keeps_clear : (room : 2 * frame.half < frame.lane_distance) (around : frame.half + AROUND + frame.half ≤ frame.lane_distance)
+      (reach : (look : Look) → (frame.half ≤ reach_of look frame.half) × (reach_of look frame.half + frame.half ≤ frame.lane_distance)) (rows : List ChainRow)
       (a : Arrow) (d : Dot) → Contains (filter_map arrow_in_row (map (item_of c frame lanes) rows)) a →
       Contains (filter_map dot_in_row (map (item_of c frame lanes) rows)) d → KeepsClear d (path_of a.route)
-  keeps_clear room around rows a d among there =
+  keeps_clear room around reach rows a d among there =
       let made = arrow_made rows a among in
       let dot = dot_made rows d there in
       let at = dot.0 in
+      let ends = reach (c.look made.0.event.0) in
       let clear =
-      path_keeps_clear (message_between c frame lanes made.0 made.1.0).route room around (dot_in c frame lanes at) (lane_at c lanes at.event.0)
+      path_keeps_clear (message_between c frame lanes made.0 made.1.0).route room around ends.0 ends.1 (dot_in c frame lanes at) (lane_at c lanes at.event.0)
       (frame.first + at.row) (stands at) in
       subst (λ (d : Dot). KeepsClear d (path_of a.route)) dot.1
       (subst (λ (a : Arrow). KeepsClear (dot_in c frame lanes at) (path_of a.route)) made.1.1 clear)
@@ -135,7 +140,8 @@ gaps_count_what_lies_between c e =
 pub chain_arrows_keep_clear : ChainArrowsKeepClear
 chain_arrows_keep_clear c e a d among there =
     let chain = chosen (clock_events_of c) c.stamps (Some e) in
-    keeps_clear c (frame_around c e chain) (lanes_of c chain) (omega arith) (omega arith) (rows_of chain) a d among there
+    let half = (frame_around c e chain).half in
+    keeps_clear c (frame_around c e chain) (lanes_of c chain) (omega arith) (omega arith) (λ look. reach_room look half) (rows_of chain) a d among there
 
 pub chain_lanes_are_of_dots : ChainLanesAreOfDots
 chain_lanes_are_of_dots c e lane some among =

@@ -1,28 +1,35 @@
 -- The laws of arrows that end in a cross.
-use Rattle.std.proofs.Common.{◌≡◌, ◌∙◌, ℕ, ◌+◌, ◌-◌, ◌<◌, ◌≤◌, ◌==◌, Bool, true, false, inl, inr, List, [], ◌∷◌, Some, None, arith, ap, refl, subst, sym}
+use Rattle.std.proofs.Common.{◌≡◌, ◌∙◌, ℕ, ◌+◌, ◌-◌, ◌/◌, ◌<◌, ◌≤◌, Bool, true, false, inl, inr, All, Contains, List, [], ◌∷◌, Option, Some, None, arith, ap, refl, subst, sym}
 use Rattle.std.specs.List.{filter_map, sum_by}
+use Rattle.std.specs.Map.{values_of}
 use Rattle.std.specs.Prelude.{cond, nat_le, nat_lt}
 use Rattle.std.proofs.lemmas.Bool.{and_from, and_parts, cases_Bool}
 use Rattle.std.proofs.lemmas.Bool.Decides.{nat_tests}
+use Rattle.std.proofs.lemmas.List.Elements.{All-contains, All-head, All-tail}
 use Rattle.std.proofs.lemmas.List.Sums.{sum_by-cons}
 use Rattle.hlc_stamp.specs.Ids.{is_among}
 use Rattle.hlc_figures.specs.Content.{Content}
 use Rattle.hlc_figures.specs.FigureText.{named_lane_of}
 use Rattle.hlc_figures.specs.Lanes.{lane_at, lane_of}
-use Rattle.hlc_diagram.specs.Cross.{NamedCross, cross_of, cross_to, is_shown, named_cross}
-use Rattle.hlc_diagram.specs.CrossLaws.{CrossesAreOfMessages, CrossesKeepClear, EachMessageHasItsCross, IsCrossOfMessage, IsShown, NothingElseChanges, is_same}
+use Rattle.hlc_diagram.specs.Cross.{NamedCross, below, cross_of, cross_to, is_shown, named_cross}
+use Rattle.hlc_diagram.specs.CrossLaws.{CrossesAreOfMessages, CrossesKeepClear, EachMessageHasItsCross, IsCrossOfMessage, IsShown, NothingElseChanges}
+use Rattle.hlc_diagram.specs.Failed.{failed_in, is_same_message, message_of, messages_in}
 use Rattle.hlc_svg.specs.Frame.{row_of}
 use Rattle.hlc_svg.specs.Clear.{KeepsClear}
 use Rattle.hlc_svg.specs.Path.{path_of}
 use Rattle.hlc_diagram.specs.Picture.{picture_with}
 use Rattle.hlc_svg.specs.declared.dot.Dot.{Dot}
 use Rattle.hlc_svg.specs.declared.frame.Frame.{Frame}
+use Rattle.hlc_svg.specs.declared.frame.TheConstants.{ROW}
+use Rattle.hlc_diagram.specs.declared.failed.Failed.{Failed}
+use Rattle.hlc_diagram.specs.declared.failed.Message.{Message}
 use Rattle.hlc_diagram.specs.declared.undelivered.Undelivered.{Undelivered}
 use Rattle.hlc_diagram.specs.declared.view.View.{View}
-use Rattle.hlc_diagram.proofs.Apart.{around_room, room, stands}
+use Rattle.hlc_diagram.proofs.Apart.{around_room, room, room_for_two, stands}
 use Rattle.hlc_svg.proofs.Clear.{path_keeps_clear, path_never_rises}
 use Rattle.hlc_diagram.proofs.Drawn.{dot, dot_is, dot_there, frame, in_range, lanes, placed_from, placed_to, side_of}
-use Rattle.hlc_diagram.proofs.Laned.{lane_there}
+use Rattle.hlc_diagram.proofs.FailedMessages.{Entries, IsKeyed, all_keyed, counts, entries_of, entry_found, first_counted, first_kept, found, kept_is_first, kept_times, message_itself, one_entry}
+use Rattle.hlc_diagram.proofs.Laned.{lane_there, mapped}
 use Rattle.hlc_figures.proofs.NodeLanes.{among_at, among_from}
 use Rattle.hlc_figures.proofs.Placed.{parts_of}
 
@@ -75,103 +82,146 @@ module _ (c : Content) (view : View) where
       }
 
 -- of a message comes an arrow if it is shown
-is_cross : (c : Content) (frame : Frame) (lanes : List ℕ) (m : Undelivered) (x : NamedCross) → cross_of c frame lanes m ≡ Some x →
-    IsDrawable frame lanes m × (named_cross c (cross_to c frame lanes m) ≡ x)
+is_cross : (c : Content) (frame : Frame) (lanes : List ℕ) (m : Failed) (x : NamedCross) → cross_of c frame lanes m ≡ Some x →
+    IsDrawable frame lanes m.first × (named_cross c (cross_to c frame lanes m) ≡ x)
 is_cross c frame lanes m x is =
-    elim (cases_Bool (is_shown frame lanes m)) [
-      | inl shown ↦ let same : Some (named_cross c (cross_to c frame lanes m)) ≡ Some x = rw shown at is in (drawable frame lanes m shown, cc)
+    elim (cases_Bool (is_shown frame lanes m.first)) [
+      | inl shown ↦ let same : Some (named_cross c (cross_to c frame lanes m)) ≡ Some x = rw shown at is in (drawable frame lanes m.first shown, cc)
       | inr hidden ↦ let none : None ≡ Some x = rw hidden at is in absurd (cc)
     ]
 
--- a message that is shown comes as often among the arrows as among the messages
-module _ (c : Content) (frame : Frame) (lanes : List ℕ) (m : Undelivered) (drawn : IsDrawable frame lanes m) where
-  abbrev among_crosses : NamedCross → ℕ
-  among_crosses x = cond (is_same x.cross.message m) 1 0
+-- the arrows of one message: one, if it is shown
+module _ (c : Content) (frame : Frame) (lanes : List ℕ) (k : Message) where
+  abbrev of_message : NamedCross → ℕ
+  of_message x = cond (is_same_message k (message_of x.cross.failed.first)) 1 0
 
-  abbrev among_messages : Undelivered → ℕ
-  among_messages n = cond (is_same n m) 1 0
+  abbrev drawn : Entries → List NamedCross
+  drawn entries = filter_map (cross_of c frame lanes) (values_of entries)
 
-  differs_if_hidden : (n : Undelivered) → is_shown frame lanes n ≡ false → among_messages n ≡ 0
-  differs_if_hidden n hidden =
-      elim (cases_Bool (is_same n m)) [
-        | inl same ↦
-            let last = and_parts _ (n.before.0 == m.before.0) same in
-            let two = and_parts (n.send.0 == m.send.0) (n.to.0 == m.to.0) last.0 in
-            let a : (n.send.0 == m.send.0) ≡ true = two.0 in
-            let b : (n.to.0 == m.to.0) ≡ true = two.1 in
-            let d : (n.before.0 == m.before.0) ≡ true = last.1 in
-            let sends : n.send.0 ≡ m.send.0 = grind (arith, nat_tests, a) in
-            let nodes : n.to.0 ≡ m.to.0 = grind (arith, nat_tests, b) in
-            let nexts : n.before.0 ≡ m.before.0 = grind (arith, nat_tests, d) in
-            let from = drawn.from in
-            let later = drawn.later in
-            let to = drawn.to in
-            let lane : is_among lanes n.to.0 ≡ true = subst (λ (node : ℕ). is_among lanes node ≡ true) (sym nodes) drawn.lane in
-            let no : false ≡ true = sym hidden ∙ shown_where frame lanes n (omega arith) (omega arith) (omega arith) lane in
-            absurd (cc)
-        | inr differs ↦ ap (λ (t : Bool). cond t 1 0) differs
+  abbrev one_if_shown : Option Failed → ℕ
+  one_if_shown None = 0
+  one_if_shown (Some f) = cond (is_shown frame lanes f.first) 1 0
+
+  -- what the first of some entries adds
+  abbrev added : Message × Failed → ℕ
+  added e = cond (is_shown frame lanes e.1.first) (cond (is_same_message k (message_of e.1.first)) 1 0) 0
+
+  adds : (e : Message × Failed) (es : Entries) → sum_by of_message (drawn (e ∷ es)) ≡ added e + sum_by of_message (drawn es)
+  adds e es =
+      elim (cases_Bool (is_shown frame lanes e.1.first)) [
+        | inl shown ↦ rw shown (sum_by-cons of_message (named_cross c (cross_to c frame lanes e.1)) (drawn es))
+        | inr hidden ↦ rw hidden (omega arith)
       ]
 
-  count_same : (undelivered : List Undelivered) → sum_by among_crosses (filter_map (cross_of c frame lanes) undelivered) ≡ sum_by among_messages undelivered
-  count_same [] = refl
-  count_same (n ∷ undelivered) =
-      let rest = filter_map (cross_of c frame lanes) undelivered in
-      let cross = named_cross c (cross_to c frame lanes n) in
-      let more = sum_by-cons among_messages n undelivered in
-      elim (cases_Bool (is_shown frame lanes n)) [
-        | inl shown ↦
-            let made : filter_map (cross_of c frame lanes) (n ∷ undelivered) ≡ cross ∷ rest = rw shown refl in
-            ap (sum_by among_crosses) made ∙ sum_by-cons among_crosses cross rest ∙ ap (λ (k : ℕ). among_messages n + k) (count_same undelivered)
-            ∙ sym more
-        | inr hidden ↦
-            let made : filter_map (cross_of c frame lanes) (n ∷ undelivered) ≡ rest = rw hidden refl in
-            let none : 0 + sum_by among_messages undelivered ≡ sum_by among_messages undelivered = omega arith in
-            ap (sum_by among_crosses) made ∙ count_same undelivered
-            ∙ sym (more ∙ ap (λ (k : ℕ). k + sum_by among_messages undelivered) (differs_if_hidden n hidden) ∙ none)
+  adds_none : (e : Message × Failed) → IsKeyed e → is_same_message k e.0 ≡ false → added e ≡ 0
+  adds_none e keyed differs =
+      let other : is_same_message k (message_of e.1.first) ≡ false = ap (is_same_message k) (sym keyed) ∙ differs in
+      elim (cases_Bool (is_shown frame lanes e.1.first)) [ inl shown ↦ rw (shown, other) refl | inr hidden ↦ rw hidden refl ]
+
+  adds_one : (e : Message × Failed) → IsKeyed e → is_same_message k e.0 ≡ true → added e ≡ cond (is_shown frame lanes e.1.first) 1 0
+  adds_one e keyed same =
+      let it : is_same_message k (message_of e.1.first) ≡ true = ap (is_same_message k) (sym keyed) ∙ same in
+      elim (cases_Bool (is_shown frame lanes e.1.first)) [ inl shown ↦ rw (shown, it) refl | inr hidden ↦ rw hidden refl ]
+
+  none_drawn : (entries : Entries) → All IsKeyed entries → entries_of k entries ≡ 0 → sum_by of_message (drawn entries) ≡ 0
+  none_drawn [] keyed none = refl
+  none_drawn (e ∷ es) keyed none =
+      let all = first_counted k e es in
+      elim (cases_Bool (is_same_message k e.0)) [
+        | inl same ↦ let one : counts k e ≡ 1 = rw same refl in absurd (omega (arith, all, none))
+        | inr differs ↦
+            let nothing = adds_none e (All-head IsKeyed e es keyed) differs in
+            let rest = none_drawn es (All-tail IsKeyed e es keyed) (omega (arith, all, none)) in
+            omega (arith, adds e es, nothing, rest)
+      ]
+
+  one_drawn : (entries : Entries) → All IsKeyed entries → entries_of k entries ≤ 1 → sum_by of_message (drawn entries) ≡ one_if_shown (found k entries)
+  one_drawn [] keyed few = refl
+  one_drawn (e ∷ es) keyed few =
+      let all = first_counted k e es in
+      let more = adds e es in
+      elim (cases_Bool (is_same_message k e.0)) [
+        | inl same ↦
+            let one : counts k e ≡ 1 = rw same refl in
+            let it = adds_one e (All-head IsKeyed e es keyed) same in
+            let rest = none_drawn es (All-tail IsKeyed e es keyed) (omega (arith, all, few)) in
+            let sum : sum_by of_message (drawn (e ∷ es)) ≡ cond (is_shown frame lanes e.1.first) 1 0 = omega (arith, more, it, rest) in
+            sum ∙ sym (ap (λ (b : Bool). one_if_shown (cond b (Some e.1) (found k es))) same)
+        | inr differs ↦
+            let nothing = adds_none e (All-head IsKeyed e es keyed) differs in
+            let rest = one_drawn es (All-tail IsKeyed e es keyed) (omega (arith, all, few)) in
+            let sum : sum_by of_message (drawn (e ∷ es)) ≡ one_if_shown (found k es) = omega (arith, more, nothing, rest) in
+            sum ∙ sym (ap (λ (b : Bool). one_if_shown (cond b (Some e.1) (found k es))) differs)
       ]
 
 pub each_message_has_its_cross : EachMessageHasItsCross
-each_message_has_its_cross c view undelivered m shown =
-    count_same c (frame c view) (lanes c view) m (drawable (frame c view) (lanes c view) m (is_drawable c view m shown)) undelivered
+each_message_has_its_cross c view undelivered m first shown =
+    let k = message_of m in
+    let kept = first_kept undelivered m first in
+    let one = one_drawn c (frame c view) (lanes c view) k (messages_in undelivered) (all_keyed undelivered) (one_entry undelivered k) in
+    let seen : is_shown (frame c view) (lanes c view) kept.0.first ≡ true =
+    ap (is_shown (frame c view) (lanes c view)) kept.2 ∙ is_drawable c view m shown in
+    one ∙ ap (one_if_shown c (frame c view) (lanes c view) k) kept.1 ∙ ap (λ (b : Bool). cond b 1 0) seen
+
+-- a message that is drawn is found among those that didn't arrive
+message_found : (undelivered : List Undelivered) (m : Failed) → Contains (failed_in undelivered) m →
+    found (message_of m.first) (messages_in undelivered) ≡ Some m
+message_found undelivered m among =
+    let entries = messages_in undelivered in
+    let entry = mapped (λ (e : Message × Failed). e.1) entries m among in
+    let e = entry.0 in
+    let keyed = All-contains IsKeyed entries e (all_keyed undelivered) entry.1 in
+    let key : message_of m.first ≡ e.0 = ap (λ (f : Failed). message_of f.first) (sym entry.2) ∙ sym keyed in
+    let same : is_same_message (message_of m.first) e.0 ≡ true = ap (is_same_message (message_of m.first)) (sym key) ∙ message_itself (message_of m.first) in
+    entry_found (message_of m.first) entries e (one_entry undelivered (message_of m.first)) same entry.1 ∙ ap (λ (f : Failed). (let o : Option Failed = Some f in o)) entry.2
+
+-- the height at which an arrow ends
+below_room : (place : ℕ) → (ROW / 2 ≤ below place) × (below place < ROW)
+below_room place = (omega arith, omega arith)
 
 pub crosses_are_of_messages : CrossesAreOfMessages
 crosses_are_of_messages c view undelivered x among =
-    let made = parts_of (cross_of c (frame c view) (lanes c view)) undelivered x among in
-    let m = made.0 in
-    let is = is_cross c (frame c view) (lanes c view) m x made.2 in
+    let made = parts_of (cross_of c (frame c view) (lanes c view)) (failed_in undelivered) x among in
+    let f = made.0 in
+    let m = f.first in
+    let is = is_cross c (frame c view) (lanes c view) f x made.2 in
+    let kept = message_found undelivered f made.1 in
     let shown : IsShown c view m = is_of_range c view m is.0 in
     let sent = m.send.0 in
     let last = m.before.0 - 1 in
     let from = is.0.from in
     let later = is.0.later in
     let rows : row_of (frame c view) sent ≤ row_of (frame c view) last = omega arith in
-    let route = (cross_to c (frame c view) (lanes c view) m).route in
-    let leaves = side_of c view (lane_at c (lanes c view) sent) (lane_of (lanes c view) m.to.0) in
+    let route = (cross_to c (frame c view) (lanes c view) f).route in
+    let height = below_room f.place in
+    let side = side_of c view (frame c view).half (room_for_two (frame c view).half) in
+    let leaves = side (lane_at c (lanes c view) sent) (lane_of (lanes c view) m.to.0) in
     subst (λ (x : NamedCross). IsCrossOfMessage c view undelivered (picture_with c view undelivered) x) is.1 (record {
-      handed_over = made.1;
+      handed_over = kept_is_first undelivered f kept;
+      times = kept_times undelivered f kept;
       shown = shown;
       from = (dot c view sent, dot_there c view sent shown.sent, record { event = refl; level = refl; side = leaves });
       beside = (
         named_lane_of c (frame c view) (lanes c view) m.to.0,
         lane_there c view m.to.0 shown.lane,
         refl,
-        side_of c view (lane_of (lanes c view) m.to.0) (lane_at c (lanes c view) sent),
+        side (lane_of (lanes c view) m.to.0) (lane_at c (lanes c view) sent),
       );
-      below = (dot c view last, dot_there c view last shown.last, refl, refl);
-      down = omega arith;
-      falls = path_never_rises route rows (omega arith);
+      below = (dot c view last, dot_there c view last shown.last, refl, omega (arith, height.0), omega (arith, height.1));
+      down = omega (arith, height.0);
+      falls = path_never_rises route rows (omega (arith, height.0));
       number = refl;
       name = refl;
     })
 
 pub crosses_keep_clear : CrossesKeepClear
 crosses_keep_clear c view undelivered x d among there =
-    let made = parts_of (cross_of c (frame c view) (lanes c view)) undelivered x among in
+    let made = parts_of (cross_of c (frame c view) (lanes c view)) (failed_in undelivered) x among in
     let is = is_cross c (frame c view) (lanes c view) made.0 x made.2 in
     let at = dot_is c view d there in
     let half = (frame c view).half in
     let clear =
-    path_keeps_clear (cross_to c (frame c view) (lanes c view) made.0).route (room half) (around_room half) (dot c view at.0)
+    path_keeps_clear (cross_to c (frame c view) (lanes c view) made.0).route (room half) (around_room half) (omega arith) (room_for_two half) (dot c view at.0)
     (lane_at c (lanes c view) at.0) at.0 (stands c view at.0) in
     subst (λ (d : Dot). KeepsClear d (path_of x.cross.route)) at.2 (subst (λ (x : NamedCross). KeepsClear (dot c view at.0) (path_of x.cross.route)) is.1 clear)
 

@@ -1,32 +1,36 @@
 -- The arrows over the borders of a picture.
-use Rattle.std.proofs.Common.{◌≡◌, ◌∙◌, ℕ, ◌+◌, ◌<◌, ◌≤◌, Bool, true, false, inl, inr, List, [], ◌∷◌, ◌++◌, Contains, Option, Some, None, arith, find, map, refl, subst, sym}
+use Rattle.std.proofs.Common.{◌≡◌, ◌∙◌, ℕ, ◌+◌, ◌<◌, ◌≤◌, ◌&&◌, Bool, true, false, inl, inr, List, [], ◌∷◌, ◌++◌, Contains, Option, Some, None, ap, arith, find, map, refl, subst, sym}
 use Rattle.std.specs.List.{cons_option, filter_map}
+use Rattle.std.specs.Option.{option_or}
 use Rattle.std.specs.Prelude.{nat_le, nat_lt}
-use Rattle.std.proofs.lemmas.Bool.{cases_Bool, cases_eq}
+use Rattle.std.proofs.lemmas.Bool.{and_parts, cases_Bool, cases_eq}
 use Rattle.std.proofs.lemmas.Bool.Decides.{nat_tests}
 use Rattle.std.proofs.lemmas.List.Elements.{Contains-append_cases}
 use Rattle.hlc_stamp.specs.declared.id.EventId.{EventId}
 use Rattle.hlc_causality.specs.Causality.{IsSendOf, skeleton_at}
+use Rattle.hlc_causality.specs.FollowedChains.{is_event}
 use Rattle.hlc_causality.specs.Neighbours.{deliveries_of}
 use Rattle.hlc_causality.proofs.Neighbours.{deliveries_of-complete}
 use Rattle.hlc_stamp.specs.Ids.{is_among}
+use Rattle.hlc_figures.specs.Chosen.{chosen}
 use Rattle.hlc_figures.specs.Columns.{lane_distance}
-use Rattle.hlc_figures.specs.Content.{Content, SendsComeFirst, node_at}
-use Rattle.hlc_figures.specs.Figure.{end_at, entering_from, entering_of, first_after, goes_on, is_step, leaving_of, leaving_to, turn_distance}
+use Rattle.hlc_figures.specs.Content.{Content, SendsComeFirst, clock_events_of, node_at}
+use Rattle.hlc_figures.specs.Figure.{delivery_after, end_at, entering_from, entering_of, first_after, forcing_at, goes_on, is_step, leaving_of, leaving_to, next_of, side_distance, step_after, turn_distance}
 use Rattle.hlc_figures.specs.Lanes.{lane_at}
 use Rattle.hlc_svg.specs.Frame.{x_of}
-use Rattle.hlc_diagram.specs.Laws.{ArrowsComeIn, ArrowsLeave, ComesIn, CrossesBorder, IsInRange, Leaves, MessagesComeIn, MessagesLeave, TurnsTowards}
+use Rattle.hlc_diagram.specs.Laws.{ArrowsComeIn, ArrowsLeave, BeginsBeside, ComesIn, CrossesBorder, IsInRange, Leaves, MessagesComeIn, MessagesLeave, TurnsTowards}
 use Rattle.hlc_figures.specs.FigureText.{Figure}
 use Rattle.hlc_diagram.specs.Picture.{picture_of}
 use Rattle.hlc_svg.specs.declared.frame.Frame.{Frame}
 use Rattle.hlc_svg.specs.declared.frame.TheConstants.{TOP}
+use Rattle.hlc_svg.specs.declared.look.Look.{Look}
 use Rattle.hlc_svg.specs.declared.shapes.Border.{Border}
 use Rattle.hlc_svg.specs.declared.shapes.Border.TheVariants.{Lower, Upper}
 use Rattle.hlc_svg.specs.declared.shapes.End.{End}
 use Rattle.hlc_diagram.specs.declared.view.View.{View}
 use Rattle.hlc_diagram.proofs.Drawn.{count, dot, dot_there, drawn_there, figure, first, frame, in_range, lanes}
 use Rattle.hlc_svg.proofs.Clear.{next_lane}
-use Rattle.hlc_figures.proofs.Links.{found_is_among}
+use Rattle.hlc_figures.proofs.Links.{chosen_exists, found_is_among}
 use Rattle.hlc_figures.proofs.NodeLanes.{counts_one}
 use Rattle.hlc_figures.proofs.NumberedDots.{left_arrows_have_room}
 use Rattle.hlc_figures.proofs.Placed.{in_one, made_of, parts_more}
@@ -55,6 +59,11 @@ some_found test (y ∷ ys) x among passes =
           ]
     ]
 
+-- an event is the one that is told
+pub is_that_event : (o : Option ℕ) (e : ℕ) → is_event o e ≡ true → o ≡ Some e
+is_that_event None e is = absurd (cc)
+is_that_event (Some d) e is = let same : d ≡ e = grind (arith, nat_tests, is) in ap (λ (n : ℕ). Some n) same
+
 -- what is drawn of an event at a border, if it is an arrow over the upper one
 pub entering_kinds : (c : Content) (explained : Option EventId) (frame : Frame) (lanes : List ℕ) (e : ℕ) (send : Option ℕ) (end : End) →
     Contains (cons_option (entering_from c explained frame lanes e send) []) end →
@@ -81,6 +90,11 @@ leaving_kinds c explained frame lanes e (Some g) end h =
 pub turn_room : (border : Border) (half : ℕ) → (half ≤ turn_distance border half) × (turn_distance border half + half ≤ lane_distance half)
 turn_room Upper half = (omega arith, omega arith)
 turn_room Lower half = (omega arith, omega arith)
+
+-- and an arrow turns no nearer to a lane than it begins or ends
+pub side_room : (border : Border) (look : Look) (half : ℕ) → (half ≤ side_distance border look half) × (side_distance border look half ≤ turn_distance border half)
+side_room Upper look half = elim (cases_Bool look.is_ringed) [ inl ring ↦ rw ring (omega arith, omega arith) | inr none ↦ rw none (omega arith, omega arith) ]
+side_room Lower look half = (omega arith, omega arith)
 
 module _ (c : Content) (view : View) where
   abbrev pub entering_at : ℕ → List End
@@ -144,11 +158,23 @@ module _ (c : Content) (view : View) where
     λ no_lower. let right : nat_lt (node_at c other) (node_at c e) ≡ false = grind (arith, nat_tests, no_lower) in rw right refl,
   )
 
-  crosses_upper : (s f : ℕ) → IsInRange c view f → CrossesBorder c (picture_of c view) (end_to s f) TOP f s
-  crosses_upper s f inside = record { at_border = refl; row = (dot c view f, dot_there c view f inside, refl, refl, turns_towards Upper f s (is_step c view.explained s f)); event = refl; number = refl }
+  begins_beside : (border : Border) (e other : ℕ) (marked : Bool) →
+      BeginsBeside (dot c view e) (end_at c (frame c view) (lanes c view) border e other marked)
+  begins_beside border e other marked =
+      elim (cases_Bool (nat_lt (node_at c other) (node_at c e))) [
+        | inl left ↦
+            let lower : node_at c other < node_at c e = grind (arith, nat_tests, left) in
+            let within = turn_within border e other lower in
+            let near = (side_room border (c.look e) (frame c view).half).1 in
+            rw left (inr (omega arith))
+        | inr right ↦ rw right (inl refl)
+      ]
 
-  crosses_lower : (s g : ℕ) → IsInRange c view s → CrossesBorder c (picture_of c view) (end_from s g) (picture_of c view).frame.height s g
-  crosses_lower s g inside = record { at_border = refl; row = (dot c view s, dot_there c view s inside, refl, refl, turns_towards Lower s g (goes_on c view.explained (frame c view) s g)); event = refl; number = refl }
+  crosses_upper : (s f : ℕ) → IsInRange c view f → CrossesBorder c (picture_of c view) (end_to s f) TOP f s
+  crosses_upper s f inside = record { at_border = refl; row = (dot c view f, dot_there c view f inside, refl, refl, turns_towards Upper f s (is_step c view.explained s f), begins_beside Upper f s (is_step c view.explained s f)); event = refl; number = refl }
+
+  pub crosses_lower : (s g : ℕ) → IsInRange c view s → CrossesBorder c (picture_of c view) (end_from s g) (picture_of c view).frame.height s g
+  crosses_lower s g inside = record { at_border = refl; row = (dot c view s, dot_there c view s inside, refl, refl, turns_towards Lower s g (goes_on c view.explained (frame c view) s g), begins_beside Lower s g (goes_on c view.explained (frame c view) s g)); event = refl; number = refl }
 
   pub entering_there : (s f : ℕ) → ComesIn c view s f → Contains (entering_at f) (end_to s f)
   entering_there s f comes =
@@ -162,8 +188,26 @@ module _ (c : Content) (view : View) where
       (sym comes.sends.delivers)
       (rw before (0, omega arith, refl))
 
-  -- the first delivery after the range is one
-  pub leaves_first : (s g : ℕ) → SendsComeFirst c → IsInRange c view s → first_after c (frame c view) s ≡ Some g → Leaves c view s g
+  -- the delivery with which the chain goes on is one that comes after the range
+  step_leaves : (s g : ℕ) (next : Option ℕ) → SendsComeFirst c → IsInRange c view s → next_of c view.explained (frame c view) ≡ next →
+      step_after c s next ≡ Some g → Leaves c view s g
+  step_leaves s g None well inside is found = let none : None ≡ Some g = found in absurd (cc)
+  step_leaves s g (Some f) well inside is found =
+      let chain = chosen (clock_events_of c) c.stamps view.explained in
+      elim (cases_Bool (is_event (forcing_at c f) s && is_event (skeleton_at c.events f).send s)) [
+        | inl goes ↦
+            let same : f ≡ g = (let h : Some f ≡ Some g = rw goes at found in cc) in
+            let delivers = is_that_event (skeleton_at c.events f).send s (and_parts (is_event (forcing_at c f) s) _ goes).1 in
+            let passes : nat_le (frame c view).end f ≡ true = found_passes _ chain f is in
+            let le : (frame c view).end ≤ f = grind (arith, nat_tests, passes) in
+            let exists = chosen_exists c view.explained f (found_is_among _ chain f is) in
+            let sends : IsSendOf c.events s f = record { earlier = well f s exists delivers; exists = exists; delivers = delivers } in
+            subst (λ (n : ℕ). Leaves c view s n) same (record { sends = sends; after = omega arith; inside = inside })
+        | inr stays ↦ let none : None ≡ Some g = rw stays at found in absurd (cc)
+      ]
+
+  -- and so is the first delivery after the range
+  leaves_first : (s g : ℕ) → SendsComeFirst c → IsInRange c view s → first_after c (frame c view) s ≡ Some g → Leaves c view s g
   leaves_first s g well inside found =
       let among = found_is_among _ (deliveries_of c.events s) g found in
       let sends : IsSendOf c.events s g =
@@ -181,6 +225,26 @@ module _ (c : Content) (view : View) where
       let le : (frame c view).end ≤ f = omega arith in
       let passes : nat_le (frame c view).end f ≡ true = grind (arith, nat_tests, le) in
       some_found (λ g. nat_le (frame c view).end g) (deliveries_of c.events s) f among passes
+
+  leaves_one : (s g : ℕ) (step : Option ℕ) → SendsComeFirst c → IsInRange c view s → step_after c s (next_of c view.explained (frame c view)) ≡ step →
+      option_or step (first_after c (frame c view) s) ≡ Some g → Leaves c view s g
+  leaves_one s g None well inside is found = leaves_first s g well inside found
+  leaves_one s g (Some f) well inside is found =
+      let same : f ≡ g = (let h : Some f ≡ Some g = found in cc) in
+      subst (λ (n : ℕ). Leaves c view s n) same (step_leaves s f (next_of c view.explained (frame c view)) well inside refl is)
+
+  pub leaves_after : (s g : ℕ) → SendsComeFirst c → IsInRange c view s → delivery_after c view.explained (frame c view) s ≡ Some g → Leaves c view s g
+  leaves_after s g well inside found = leaves_one s g (step_after c s (next_of c view.explained (frame c view))) well inside refl found
+
+  -- if something leaves, an arrow leads to one of the deliveries after the range
+  one_or_other : (step after : Option ℕ) (g : ℕ) → after ≡ Some g → (h : ℕ) × (option_or step after ≡ Some h)
+  one_or_other None after g found = (g, found)
+  one_or_other (Some f) after g found = (f, refl)
+
+  some_left : (s f : ℕ) → SendsComeFirst c → Leaves c view s f → (g : ℕ) × (delivery_after c view.explained (frame c view) s ≡ Some g)
+  some_left s f well leaves =
+      let first = first_left s f well leaves in
+      one_or_other (step_after c s (next_of c view.explained (frame c view))) (first_after c (frame c view) s) first.0 first.1
 
 pub messages_come_in : MessagesComeIn
 messages_come_in c view s f comes = (
@@ -209,24 +273,24 @@ arrows_come_in c view end well among =
 
 pub messages_leave : MessagesLeave
 messages_leave c view s f well leaves =
-    let found = first_left c view s f well leaves in
+    let found = some_left c view s f well leaves in
     let g = found.0 in
     let there : Contains (leaving_at c view s) (end_from c view s g) =
     subst (λ (o : Option ℕ). Contains (cons_option (leaving_to c view.explained (frame c view) (lanes c view) s o) []) (end_from c view s g)) (sym found.1)
     (0, omega arith, refl) in (
       end_from c view s g,
       drawn_there c view (leaving c view) (leaving_at c view) refl (leaving_more c view) s (end_from c view s g) leaves.inside there,
-      (g, leaves_first c view s g well leaves.inside found.1, crosses_lower c view s g leaves.inside),
+      (g, leaves_after c view s g well leaves.inside found.1, crosses_lower c view s g leaves.inside),
     )
 
 pub arrows_leave : ArrowsLeave
 arrows_leave c view end well among =
     let made = made_of (leaving c view) (leaving_at c view) refl (leaving_more c view) (first c view) (count c view) end among in
     let s = made.0 in
-    let is = leaving_kinds c view.explained (frame c view) (lanes c view) s (first_after c (frame c view) s) end made.3 in
+    let is = leaving_kinds c view.explained (frame c view) (lanes c view) s (delivery_after c view.explained (frame c view) s) end made.3 in
     let inside : IsInRange c view s = in_range c view s made.1 made.2 in (
       s,
       is.0,
-      leaves_first c view s is.0 well inside is.1,
+      leaves_after c view s is.0 well inside is.1,
       subst (λ (x : End). CrossesBorder c (picture_of c view) x (picture_of c view).frame.height s is.0) is.2 (crosses_lower c view s is.0 inside),
     )

@@ -16,7 +16,8 @@ use Rattle.hlc_diagram.specs.Layout.{end_of, first_of, frame_of, lanes_in}
 use Rattle.hlc_figures.specs.Content.{Content, clock_events_of}
 use Rattle.hlc_figures.specs.Lanes.{lane_at}
 use Rattle.hlc_figures.specs.Figure.{arrow_between, arrow_into, arrow_of, dot_of}
-use Rattle.hlc_figures.specs.Columns.{places_from}
+use Rattle.hlc_figures.specs.Columns.{lane_distance, places_from}
+use Rattle.hlc_svg.specs.Shapes.{reach_of}
 use Rattle.hlc_svg.specs.Frame.{row_of, row_y, towards, x_of, y_of}
 use Rattle.hlc_diagram.specs.Laws.{ArrowsAreOfDeliveries, DotsAreOfEvents, EachDeliveryHasOneArrow, EachEventHasOneDot, IsArrowOfDelivery, IsDotOfEvent, IsInRange, MarkedAreTheChain, NoTwoDotsInOnePlace, NoneIsMarked, TimeRunsDown, TitlesAreOfTheDots, arrows_in, dots_in}
 use Rattle.hlc_figures.specs.FigureText.{Figure, figure_of}
@@ -26,6 +27,7 @@ use Rattle.hlc_figures.specs.Title.{title_text}
 use Rattle.hlc_svg.specs.declared.frame.Frame.{Frame}
 use Rattle.hlc_svg.specs.declared.arrow.Arrow.{Arrow}
 use Rattle.hlc_svg.specs.declared.dot.Dot.{Dot}
+use Rattle.hlc_svg.specs.declared.look.Look.{Look}
 use Rattle.hlc_svg.specs.declared.shapes.Point.{Point}
 use Rattle.hlc_diagram.specs.declared.view.View.{View}
 use Rattle.hlc_svg.proofs.Clear.{next_lane, path_never_rises}
@@ -202,13 +204,17 @@ each_delivery_has_one_arrow c view s f sends in_s in_f =
     let one = one_passes (arrows c view) (arrow c view) refl (arrows_more c view) test f others (first c view) (count c view) from to in
     sym (length-filter test (arrows_in (picture_of c view))) ∙ ap length (one ∙ own)
 
+-- lanes have room for a dot and a ring
+pub reach_room : (look : Look) (half : ℕ) → (half ≤ reach_of look half) × (reach_of look half + half ≤ lane_distance half)
+reach_room look half = elim (cases_Bool look.is_ringed) [ inl ring ↦ rw ring (omega arith, omega arith) | inr none ↦ rw none (omega arith, omega arith) ]
+
 -- the ends of an arrow lie at the sides of its dots
 module _ (c : Content) (view : View) where
   pub side_of :
-      (lane other : ℕ) →
-      (towards (frame c view) lane other (frame c view).half ≡ x_of (frame c view) lane + (frame c view).half) ⊎
-      (towards (frame c view) lane other (frame c view).half + (frame c view).half ≡ x_of (frame c view) lane)
-  side_of lane other =
+      (reach : ℕ) → reach + (frame c view).half ≤ (frame c view).lane_distance → (lane other : ℕ) →
+      (towards (frame c view) lane other reach ≡ x_of (frame c view) lane + reach) ⊎
+      (towards (frame c view) lane other reach + reach ≡ x_of (frame c view) lane)
+  side_of reach within lane other =
       elim (cases_lt other lane) [
         | inl lt ↦
             let test : nat_lt other lane ≡ true = grind (arith, nat_tests, lt) in
@@ -232,8 +238,9 @@ arrows_are_of_deliveries c view a first_sends among =
     let to : f < first c view + count c view = made.2 in
     let r_s : IsInRange c view s = in_range c view s from (omega arith) in
     let sends : IsSendOf c.events s f = record { earlier = earlier; exists = exists; delivers = is.1 } in
-    let leaves = side_of c view (lane_at c lanes s) (lane_at c lanes f) in
-    let arrives = side_of c view (lane_at c lanes f) (lane_at c lanes s) in
+    let half = frame.half in
+    let leaves = side_of c view half (omega arith) (lane_at c lanes s) (lane_at c lanes f) in
+    let arrives = side_of c view (reach_of (c.look f) half) (reach_room (c.look f) half).1 (lane_at c lanes f) (lane_at c lanes s) in
     let rows : row_of frame s < row_of frame f = omega arith in
     let level : row_y (row_of frame f) + 0 ≡ row_y (row_of frame f) = omega arith in
     let lowers : y_of frame s < y_of frame f = lower frame s f from earlier in

@@ -4,7 +4,9 @@ pub mod ChainTexts
 pub mod Crosses
 pub mod Crossings
 pub mod Drawn
+pub mod FailedMessages
 pub mod Faults
+pub mod GoingOn
 pub mod Laned
 pub mod Steps
 pub mod Texts

@@ -30,7 +30,7 @@ use Rattle.hlc_figures.proofs.Links.{clock_size}
 use Rattle.hlc_figures.proofs.NodeLanes.{among_at}
 use Rattle.hlc_figures.proofs.Placed.{parts_more}
 
-forced_by : (t : ClockEvents) (pairs : List Pair) (d f : ℕ) (found : Option ℕ) → Finds (λ c. IsClockForcing t pairs c f) found
+pub forced_by : (t : ClockEvents) (pairs : List Pair) (d f : ℕ) (found : Option ℕ) → Finds (λ c. IsClockForcing t pairs c f) found
     → IsClockForcing t pairs d f → found ≡ Some d
 forced_by t pairs d f None found forces = absurd (found d forces)
 forced_by t pairs d f (Some c) found forces = ap (λ (x : ℕ). Some x) (clock_forcing_is_unique t pairs c d f found forces)

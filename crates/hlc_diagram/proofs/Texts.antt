@@ -15,7 +15,7 @@ use Rattle.hlc_diagram.specs.Picture.{GrowsBy, picture_in, picture_text}
 use Rattle.hlc_figures.specs.FigureText.{back_text, figure_of, front_text, lines_text, named_lane_of, named_lane_text}
 use Rattle.hlc_svg.specs.Shapes.{if_drawn}
 use Rattle.hlc_svg.specs.declared.frame.Frame.{Frame}
-use Rattle.hlc_diagram.specs.declared.undelivered.Undelivered.{Undelivered}
+use Rattle.hlc_diagram.specs.declared.failed.Failed.{Failed}
 use Rattle.hlc_figures.proofs.Places.{places_from-more}
 use Rattle.hlc_figures.proofs.Cells.{flat_map-map}
 
@@ -128,23 +128,23 @@ module _ {X Y : Type 0} (text : Y → List ℕ) (f : X → Option Y) where
 
 -- the parts of a picture, one after the other
 pub parts_of_picture :
-    (c : Content) (frame : Frame) (lanes : List ℕ) (explained : Option EventId) (undelivered : List Undelivered) →
+    (c : Content) (frame : Frame) (lanes : List ℕ) (explained : Option EventId) (failed : List Failed) →
     head_text frame (caption_of c explained frame) c.legend (map (heading_of c frame) (places_below c.columns))
     ++ (flat_map (λ e. back_text (figure_of c explained frame lanes e)) (places_in frame)
     ++ (flat_map (λ node. named_lane_text (named_lane_of c frame lanes node)) lanes
     ++ ((flat_map (λ e. lines_text (figure_of c explained frame lanes e)) (places_in frame)
-    ++ flat_map (λ m. if_drawn cross_text (cross_of c frame lanes m)) undelivered)
+    ++ flat_map (λ m. if_drawn cross_text (cross_of c frame lanes m)) failed)
     ++ (flat_map (λ e. front_text (figure_of c explained frame lanes e)) (places_in frame) ++ codes "</svg>\n"))))
-    ≡ picture_text (picture_in c frame lanes explained undelivered)
+    ≡ picture_text (picture_in c frame lanes explained failed)
 unfolding picture_text
-parts_of_picture c frame lanes explained undelivered =
+parts_of_picture c frame lanes explained failed =
     let back = flat_map-map back_text (figure_of c explained frame lanes) (places_in frame) in
     let named = flat_map-map named_lane_text (named_lane_of c frame lanes) lanes in
     let lines = flat_map-map lines_text (figure_of c explained frame lanes) (places_in frame) in
-    let crosses = flat_map-filter_map cross_text (cross_of c frame lanes) undelivered in
+    let crosses = flat_map-filter_map cross_text (cross_of c frame lanes) failed in
     let front = flat_map-map front_text (figure_of c explained frame lanes) (places_in frame) in
     let figures = map (figure_of c explained frame lanes) (places_in frame) in
     let then =
-    append_assoc (flat_map lines_text figures) (flat_map cross_text (filter_map (cross_of c frame lanes) undelivered))
+    append_assoc (flat_map lines_text figures) (flat_map cross_text (filter_map (cross_of c frame lanes) failed))
     (flat_map front_text figures ++ codes "</svg>\n") in
     rw (back, named, lines, crosses, front, then) refl

@@ -8,9 +8,10 @@ use Rattle.hlc_causality.specs.ClockChain.{IsClockChainOf, IsClockForcing}
 use Rattle.hlc_figures.specs.Chosen.{IsMissing}
 use Rattle.hlc_diagram.specs.Layout.{lanes_in}
 use Rattle.hlc_figures.specs.Content.{Content, NodesExist, SendsComeFirst, clock_events_of, node_at}
-use Rattle.hlc_figures.specs.Figure.{turn_distance}
+use Rattle.hlc_figures.specs.Figure.{side_distance, turn_distance}
 use Rattle.hlc_figures.specs.Lanes.{lane_at}
 use Rattle.hlc_svg.specs.Frame.{x_of}
+use Rattle.hlc_svg.specs.Shapes.{reach_of}
 use Rattle.hlc_svg.specs.Path.{arrow_end, arrow_start, course_of, path_of}
 use Rattle.hlc_figures.specs.FigureText.{Figure, NamedLane}
 use Rattle.hlc_diagram.specs.Picture.{Picture, picture_of}
@@ -71,25 +72,29 @@ abbrev pub NoTwoDotsInOnePlace : Type 0
 NoTwoDotsInOnePlace = (c : Content) (view : View) (a b : Dot) →
     Contains (dots_in (picture_of c view)) a → Contains (dots_in (picture_of c view)) b → a.at ≡ b.at → a ≡ b
 
--- a point lies at a side of the dot of an event
-pub record IsAtSide (dot : Dot) (e : EventId) (point : Point) : Type 0 where
+-- a point lies so far beside the middle of the dot of an event
+pub record IsBeside (dot : Dot) (reach : ℕ) (e : EventId) (point : Point) : Type 0 where
   pub event : dot.event ≡ e
   pub level : point.y ≡ dot.at.y
-  pub side : (point.x ≡ dot.at.x + dot.half) ⊎ (point.x + dot.half ≡ dot.at.x)
+  pub side : (point.x ≡ dot.at.x + reach) ⊎ (point.x + reach ≡ dot.at.x)
 
+-- at a side of the dot, or of the ring around it, if it has one
 abbrev pub IsAtDot : Picture → EventId → Point → Type 0
-IsAtDot p e point = (dot : Dot) × Contains (dots_in p) dot × IsAtSide dot e point
+IsAtDot p e point = (dot : Dot) × Contains (dots_in p) dot × IsBeside dot dot.half e point
+
+abbrev pub IsAtRing : Picture → EventId → Point → Type 0
+IsAtRing p e point = (dot : Dot) × Contains (dots_in p) dot × IsBeside dot (reach_of dot.look dot.half) e point
 
 -- each delivery of the range whose send is in the range has exactly one arrow
 abbrev pub EachDeliveryHasOneArrow : Type 0
 EachDeliveryHasOneArrow = (c : Content) (view : View) (s f : ℕ) → IsSendOf c.events s f → IsInRange c view s → IsInRange c view f →
     count_by (λ arrow. arrow.delivered.0 == f) (arrows_in (picture_of c view)) ≡ 1
 
--- an arrow runs from the dot of a send to the dot of a delivery of it, downwards
+-- an arrow runs from the dot of a send to the dot of a delivery of it, where its head ends at the ring, if there is one; downwards
 pub record IsArrowOfDelivery (c : Content) (p : Picture) (arrow : Arrow) : Type 0 where
   pub delivers : IsSendOf c.events arrow.sent.0 arrow.delivered.0
   pub from : IsAtDot p arrow.sent (arrow_start arrow.route)
-  pub to : IsAtDot p arrow.delivered (arrow_end arrow.route)
+  pub to : IsAtRing p arrow.delivered (arrow_end arrow.route)
   pub down : (arrow_start arrow.route).y < (arrow_end arrow.route).y
   pub falls : NeverRises (path_of arrow.route)
 
@@ -141,10 +146,15 @@ TurnsTowards c other dot end =
     (node_at c other < node_at c dot.event.0 → end.turn_x + turn_distance end.border dot.half ≡ dot.at.x)
     × (node_at c dot.event.0 ≤ node_at c other → end.turn_x ≡ dot.at.x + turn_distance end.border dot.half)
 
+-- it comes in to a side of the dot or of the ring around it, or leaves from a side of the dot
+abbrev pub BeginsBeside : Dot → End → Type 0
+BeginsBeside dot end =
+    (end.x ≡ dot.at.x + side_distance end.border dot.look dot.half) ⊎ (end.x + side_distance end.border dot.look dot.half ≡ dot.at.x)
+
 -- an arrow runs between a border and the row of the dot of e, on the side of the event at its other end, and has that one's number
 pub record CrossesBorder (c : Content) (p : Picture) (end : End) (border e other : ℕ) : Type 0 where
   pub at_border : end.border_y ≡ border
-  pub row : (dot : Dot) × Contains (dots_in p) dot × (dot.event.0 ≡ e) × (dot.at.y ≡ end.y) × TurnsTowards c other dot end
+  pub row : (dot : Dot) × Contains (dots_in p) dot × (dot.event.0 ≡ e) × (dot.at.y ≡ end.y) × TurnsTowards c other dot end × BeginsBeside dot end
   pub event : end.event.0 ≡ other
   pub number : end.number ≡ c.shown other
 
@@ -195,6 +205,13 @@ abbrev pub StepsAreThick : Type 0
 StepsAreThick = (c : Content) (view : View) (e : EventId) (chain : List ℕ) (d : ℕ) (dot : Dot) → view.explained ≡ Some e → e.0 < length c.events →
     IsClockChainOf (clock_events_of c) c.stamps e.0 chain → Contains chain dot.event.0 →
     IsClockForcing (clock_events_of c) c.stamps d dot.event.0 → Contains (dots_in (picture_of c view)) dot → HasThickLine (picture_of c view) dot
+
+-- and a step by a message from a send of the range to an event after it has one that leaves over the lower border, with the number of that event
+abbrev pub StepsGoOn : Type 0
+StepsGoOn = (c : Content) (view : View) (e : EventId) (chain : List ℕ) (s f : ℕ) → SendsComeFirst c → view.explained ≡ Some e → e.0 < length c.events →
+    IsClockChainOf (clock_events_of c) c.stamps e.0 chain → Contains chain f → IsClockForcing (clock_events_of c) c.stamps s f → Leaves c view s f →
+    (end : End) × Contains (leaving_in (picture_of c view)) end × CrossesBorder c (picture_of c view) end (picture_of c view).frame.height s f
+    × IsTrue end.is_marked
 
 -- if no event is explained, or one that isn't there, none is marked
 abbrev pub NoneIsMarked : Type 0

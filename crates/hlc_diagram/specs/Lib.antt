@@ -2,12 +2,14 @@ pub mod ChainLaws
 pub mod ChainPicture
 pub mod Cross
 pub mod CrossLaws
+pub mod Failed
 pub mod Fault
 pub mod Laws
 pub mod Layout
 pub mod Picture
 pub mod View
 pub use Rattle.hlc_svg.specs.Clear
+pub use Rattle.hlc_svg.specs.CutLabel
 pub use Rattle.hlc_svg.specs.Frame
 pub use Rattle.hlc_svg.specs.Label
 pub use Rattle.hlc_svg.specs.LabelLaws

@@ -8,9 +8,11 @@ use Rattle.hlc_diagram.specs.Layout.{frame_of, lanes_in}
 use Rattle.hlc_figures.specs.Columns.{places_in}
 use Rattle.hlc_figures.specs.Content.{Content}
 use Rattle.hlc_diagram.specs.Cross.{NamedCross, cross_of, cross_text}
+use Rattle.hlc_diagram.specs.Failed.{failed_in}
 use Rattle.hlc_figures.specs.Head.{caption_of, head_text, heading_of}
 use Rattle.hlc_figures.specs.Row.{Cell}
 use Rattle.hlc_svg.specs.declared.frame.Frame.{Frame}
+use Rattle.hlc_diagram.specs.declared.failed.Failed.{Failed}
 use Rattle.hlc_diagram.specs.declared.undelivered.Undelivered.{Undelivered}
 use Rattle.hlc_diagram.specs.declared.view.View.{View}
 use Rattle.hlc_figures.specs.FigureText.{Figure, NamedLane, figure_of, named_lane_of, back_text, lines_text, front_text, named_lane_text}
@@ -26,20 +28,20 @@ pub record Picture : Type 0 where
   pub figures : List Figure
   pub crosses : List NamedCross
 
-abbrev pub picture_in : Content → Frame → (lanes : List ℕ) → Option EventId → List Undelivered → Picture
-picture_in c frame lanes explained undelivered = record {
+abbrev pub picture_in : Content → Frame → (lanes : List ℕ) → Option EventId → List Failed → Picture
+picture_in c frame lanes explained failed = record {
   frame = frame;
   caption = caption_of c explained frame;
   legend = c.legend;
   headings = map (heading_of c frame) (places_below c.columns);
   lanes = map (named_lane_of c frame lanes) lanes;
   figures = map (figure_of c explained frame lanes) (places_in frame);
-  crosses = filter_map (cross_of c frame lanes) undelivered;
+  crosses = filter_map (cross_of c frame lanes) failed;
 }
 
 -- the picture of what a diagram shows, with messages that didn't arrive, and without any
 abbrev pub picture_with : Content → View → List Undelivered → Picture
-picture_with c view undelivered = picture_in c (frame_of c view) (lanes_in c view) view.explained undelivered
+picture_with c view undelivered = picture_in c (frame_of c view) (lanes_in c view) view.explained (failed_in undelivered)
 
 abbrev pub picture_of : Content → View → Picture
 picture_of c view = picture_with c view []

@@ -15,6 +15,7 @@ ghost use Rattle.hlc_figures.specs.Scene.{IsScene};
 
 use crate::cross::draw_crosses;
 use crate::draw_fault::DrawFault;
+use crate::failed::{Failed, failed_messages};
 use crate::layout::{lanes_in, lay_out};
 use crate::marks::{first_past, marked_chain, marks};
 use crate::undelivered::Undelivered;
@@ -122,14 +123,14 @@ fn draw_scene<S: Subject, W: Write>(
     alloc: Global,
     subject: &S,
     scene: &Scene<'_>,
-    undelivered: &[Undelivered],
+    messages: &[Failed],
     caption: &str,
     writer: &mut W,
 ) -> Result<(), DrawFault>
     requires scene { IsScene (S.content subject.now) scene.now }
     requires caption { caption.now ≡ caption_of (S.content subject.now) scene.now.explained scene.now.frame }
     ensures text { OnOk result (Appends (W.contents writer.old) (W.contents writer.new)
-        (picture_text (picture_in (S.content subject.now) scene.now.frame scene.now.lanes.now scene.now.explained undelivered.now))) }
+        (picture_text (picture_in (S.content subject.now) scene.now.frame scene.now.lanes.now scene.now.explained messages.now))) }
     ensures fault { IfErr result IsOfOutput }
 {
     let mut text = String::new(alloc);
@@ -137,7 +138,7 @@ fn draw_scene<S: Subject, W: Write>(
     draw_layer(&mut text, Layer::Back, subject, scene, writer)?;
     draw_lanes(&mut text, subject, scene, writer)?;
     draw_layer(&mut text, Layer::Lines, subject, scene, writer)?;
-    draw_crosses(&mut text, subject, scene, undelivered, writer)?;
+    draw_crosses(&mut text, subject, scene, messages, writer)?;
     draw_layer(&mut text, Layer::Front, subject, scene, writer)?;
     finish(&mut text, writer)
 }
@@ -185,10 +186,10 @@ pub fn draw<S: Subject, W: Write>(
 }
 
 /// Draws an execution, or a part of it, as SVG, with the messages that didn't arrive. If the send of such a message is drawn, and so is
-/// the last event before it failed to arrive, an arrow runs from the send towards the lane of its target and ends in a cross, above the
-/// row of the next event.
+/// the last event before it first failed to arrive, an arrow runs from the send towards the lane of its target and ends in a cross, above the
+/// row of the next event. A message that failed to arrive more than once has one cross, with how often it did.
 ///
-/// It takes memory and time as `draw` does, and time linear in these messages. After a fault of the writer or of memory nothing is
+/// It takes memory and time as `draw` does, memory for each of these messages, and time linear in how often they failed. After a fault of the writer or of memory nothing is
 /// promised of what the writer got.
 pub fn draw_with<S: Subject, W: Write>(
     alloc: Global,
@@ -222,7 +223,8 @@ pub fn draw_with<S: Subject, W: Write>(
         columns: &layout.columns,
     };
     let caption = caption_for(alloc, subject, layout.frame, view.explained, &list)?;
-    draw_scene(alloc, subject, &scene, undelivered, &caption, writer)?;
+    let messages = failed_messages(alloc, undelivered)?;
+    draw_scene(alloc, subject, &scene, &messages, &caption, writer)?;
     if lacks(subject, view.explained) {
         return Err(DrawFault::NoEvent);
     }

@@ -2,7 +2,7 @@
 
 ghost use Rattle.hlc_diagram.specs.ChainLaws.{ChainArrowsKeepClear, ChainDotsStandOnLanes, ChainLanesAreOfDots, DotsAreTheChain, GapsCountWhatLiesBetween};
 ghost use Rattle.hlc_diagram.specs.CrossLaws.{CrossesAreOfMessages, CrossesKeepClear, EachMessageHasItsCross, NothingElseChanges};
-ghost use Rattle.hlc_diagram.specs.Laws.{ArrowsAreOfDeliveries, ArrowsComeIn, ArrowsKeepClear, ArrowsLeave, BorderArrowsKeepClear, DotsAreOfEvents, DotsStandOnLanes, EachDeliveryHasOneArrow, EachEventHasOneDot, EachNodeHasItsLane, LanesAreApart, LanesAreOfDots, MarkedAreTheChain, MessagesComeIn, MessagesLeave, NoTwoDotsInOnePlace, NoneIsMarked, StepsAreThick, TimeRunsDown, TitlesAreOfTheDots};
+ghost use Rattle.hlc_diagram.specs.Laws.{ArrowsAreOfDeliveries, ArrowsComeIn, ArrowsKeepClear, ArrowsLeave, BorderArrowsKeepClear, DotsAreOfEvents, DotsStandOnLanes, EachDeliveryHasOneArrow, EachEventHasOneDot, EachNodeHasItsLane, LanesAreApart, LanesAreOfDots, MarkedAreTheChain, MessagesComeIn, MessagesLeave, NoTwoDotsInOnePlace, NoneIsMarked, StepsAreThick, StepsGoOn, TimeRunsDown, TitlesAreOfTheDots};
 ghost use Rattle.hlc_diagram.specs.View.{ViewsAreAround};
 
 /// Each event of the range has exactly one dot, on the lane of its node and with its number, and there are no others. A later event
@@ -59,16 +59,17 @@ pub fn crosses_are_of_messages()
 {}
 
 /// Exactly the events of the chain that explains the event are marked, and none if there is no such event. Each step of the chain
-/// to an event of the range has a thick line, even if it comes from above the range. The chain is the one by floors and ticks; where
+/// to an event of the range has a thick line, even if it comes from above the range, and so has a step by a message to an event after it. The chain is the one by floors and ticks; where
 /// receives tick and no event has a rule of its own, it is the one by readings, as `floor_laws` of `hlc_causality` say.
 pub fn marked_are_the_chain()
     ensures chain { MarkedAreTheChain }
     ensures steps { StepsAreThick }
+    ensures goes_on { StepsGoOn }
     ensures none { NoneIsMarked }
 {}
 
-pub use hlc_figures::laws::first_lane_has_room;
-pub use hlc_svg::laws::{labels_are_harmless, shapes_have_room};
+pub use hlc_figures::laws::{first_lane_has_room, names_have_room};
+pub use hlc_svg::laws::{labels_are_cut_in_the_middle, labels_are_harmless, shapes_have_room};
 
 /// The picture of a chain alone has a dot for each event of the chain, in order, and no others. Between two that aren't next to one
 /// another it has one row, which counts exactly the events that lie there. No arrow comes nearer to a dot than half its width and height. Each dot

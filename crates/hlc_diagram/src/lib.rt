@@ -10,7 +10,7 @@
 //! - `draw_with` writes one in which messages are crossed out that didn't arrive.
 //! - `draw_chain` writes the picture of a chain alone.
 //! - `View` says which events are drawn, and which one is explained.
-//! - `put_label` escapes text for a picture; `put_number` and `put_stamp` add numbers and stamps as rows show them.
+//! - `put_label` escapes text for a picture, and `put_cut_label` cuts a name to `NAME_ROOM` in the middle; `put_number` and `put_stamp` add numbers and stamps as rows show them.
 //! - `FirstDigits` are digits that the numbers of a column share, which stand in its heading alone.
 //! - `laws` has the theorems: one dot for each event, one arrow for each delivery, one cross for each message that didn't arrive,
 //!   no arrow through a dot, and no markup from a label.
@@ -43,6 +43,7 @@ mod chain_drawing;
 mod cross;
 mod draw_fault;
 mod drawing;
+mod failed;
 pub mod laws;
 mod layout;
 mod marks;
@@ -54,6 +55,8 @@ pub use draw_fault::DrawFault;
 pub use drawing::{draw, draw_with, is_missing};
 pub use hlc_figures::columns::LEAST_WIDTH;
 pub use hlc_figures::subject::Subject;
+pub use hlc_svg::cut_label::put_cut_label;
+pub use hlc_svg::frame::NAME_ROOM;
 pub use hlc_svg::label::{label_width, put_label};
 pub use hlc_svg::look::{Form, Look};
 pub use hlc_svg::numbers::{

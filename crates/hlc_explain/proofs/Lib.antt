@@ -16,3 +16,8 @@ pub mod PlaceCounts
 pub mod Pasts
 pub mod VectorLaws
 pub mod KeptCounts
+pub mod ShortestPaths
+pub mod NamedLinks
+pub mod PathLengths
+pub mod Raising
+pub mod LeastWithout

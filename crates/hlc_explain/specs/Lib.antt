@@ -2,6 +2,8 @@ pub mod Drift
 pub mod Summaries
 pub mod KnownOrigins
 pub mod Marks
+pub mod Paths
+pub mod Taints
 pub mod Frontier
 pub mod Findings
 pub mod ClockFindings

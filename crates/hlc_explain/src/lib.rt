@@ -6,11 +6,13 @@
 //! - `chain` and `check_chain`: the events that force a stamp, and whether a list is such a chain.
 //! - `relation` and `influenced`: how two events stand in happened-before, and all that an event happened before. For more nodes than a
 //!   cluster has, `relation_with_ends` is lent a number for each.
+//! - `path`: a shortest list of events by which one came to know of another, each a direct predecessor of the next.
+//! - `tainted`: the events whose stamps would be lower if one event's floor, as the reading of a clock that jumped, were (0, 0).
 //! - `drift`: how far a node's stamps ran ahead of its readings. `explain_all`: a summary of each event, on all processors.
 //! - `vectors`: of each event, how many events of each node are the event itself or happened before it (Fidge 1988, Mattern
 //!   1989). They show causality without a look at messages; tools that draw logs read them. They give no stamps and read none.
 //!
-//! `chain`, `drift` and `explain_all` require that the stamps are the least; the others don't. `laws` says what the answers mean.
+//! `chain`, `drift`, `tainted` and `explain_all` require that the stamps are the least; the others don't. `laws` says what the answers mean.
 //!
 //! A first caller, proved in `hlc_examples`: why is the stamp of this event so high?
 //!
@@ -71,7 +73,9 @@ mod kept_vectors;
 mod known_origins;
 pub mod laws;
 mod marks;
+mod paths;
 mod summaries;
+mod taints;
 
 pub use answers::{Drift, Missing, Relation, Summary};
 pub use causality::{relation, relation_with_ends};
@@ -82,4 +86,6 @@ pub use drifts::drift;
 pub use hlc_verdict::AuditFault;
 pub use influence::influenced;
 pub use kept_vectors::Vectors;
+pub use paths::path;
 pub use summaries::explain_all;
+pub use taints::tainted;

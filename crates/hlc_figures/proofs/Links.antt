@@ -96,7 +96,7 @@ in_before t pairs f d before None found earlier among = let lt = among.1 in absu
 in_before t pairs f d before (Some e) found earlier among =
     let lt : e < f = clock_forcing_is_earlier t pairs e f found in let le : d ≤ e = earlier e lt among in omega arith
 
-in_followed : (t : ClockEvents) (pairs : List Pair) (n f d : ℕ) → f < length t → Contains (clock_followed_back t pairs n f) d → d ≤ f
+pub in_followed : (t : ClockEvents) (pairs : List Pair) (n f d : ℕ) → f < length t → Contains (clock_followed_back t pairs n f) d → d ≤ f
 in_followed t pairs zero f d exists among = let same : f ≡ d = in_one f d among in omega arith
 in_followed t pairs (suc n) f d exists among =
     elim (Contains-append_cases (unwrap_or (option_map (λ e. clock_followed_back t pairs n e) (clock_forcing_of t pairs f)) []) (f ∷ []) d among) [
@@ -119,11 +119,17 @@ chosen_exists c (Some e) d among =
     ]
 
 -- so the one with which it goes on after the range exists
-pub next_exists :
+next_exists :
     (c : Content) (explained : Option EventId) (frame : Frame) (next : EventId) → Some next.0 ≡ next_of c explained frame →
     next.0 < length c.events
 next_exists c explained frame next is =
     chosen_exists c explained next.0 (found_is_among (λ e. nat_le frame.end e) (chosen (clock_events_of c) c.stamps explained) next.0 (sym is))
+
+pub next_is_there :
+    (c : Content) (explained : Option EventId) (frame : Frame) (next : Option EventId) → place_of next ≡ next_of c explained frame →
+    IfSome next (λ next. next.0 < length c.events)
+next_is_there c explained frame None is = tt
+next_is_there c explained frame (Some next) is = next_exists c explained frame next is
 
 -- if a chain explains an event, the event exists
 chosen_has_event : (c : Content) (e : EventId) → 0 < length (chosen (clock_events_of c) c.stamps (Some e)) → e.0 < length c.events

@@ -8,6 +8,7 @@ use Rattle.hlc_figures.specs.Lanes.{lane_at}
 use Rattle.hlc_svg.specs.Frame.{row_y, x_of}
 use Rattle.hlc_figures.specs.FigureText.{Figure, layer_text}
 use Rattle.hlc_figures.specs.Row.{row_at}
+use Rattle.hlc_svg.specs.Shapes.{reach_of}
 use Rattle.hlc_figures.specs.Title.{title_text}
 use Rattle.hlc_svg.specs.declared.arrow.Arrow.{Arrow}
 use Rattle.hlc_figures.specs.declared.chain_figure.Counted.{Counted}
@@ -57,6 +58,7 @@ message_between c frame lanes e d = record {
     below = 0;
     from = record { 0 = lane_at c lanes d.event.0 };
     to = record { 0 = lane_at c lanes e.event.0 };
+    reach = reach_of (c.look e.event.0) frame.half;
     frame = frame;
   };
   is_marked = true;

@@ -1,12 +1,12 @@
 -- The columns of the rows beside the lanes.
-use Rattle.std.specs.Prelude.{◌≡◌, ℕ, zero, suc, ◌+◌, ◌-◌, ◌*◌, ◌^◌, ◌++◌, ◌<◌, ◌≤◌, false, List, [], ◌∷◌, if◌then◌else◌, length, max, slice_index_or}
+use Rattle.std.specs.Prelude.{◌≡◌, ℕ, zero, suc, ◌+◌, ◌-◌, ◌*◌, ◌/◌, ◌^◌, ◌++◌, ◌<◌, ◌≤◌, false, List, [], ◌∷◌, if◌then◌else◌, length, max, slice_index_or}
 use Rattle.hlc_stamp.specs.Ids.{is_among}
 use Rattle.hlc_figures.specs.Content.{Content}
 use Rattle.hlc_figures.specs.Figure.{turn_distance}
 use Rattle.hlc_svg.specs.Numbers.{digits_of}
 use Rattle.hlc_figures.specs.declared.columns.TheConstants.{CHARACTER, GAP, LEAST_WIDTH}
 use Rattle.hlc_svg.specs.declared.frame.Frame.{Frame}
-use Rattle.hlc_svg.specs.declared.frame.TheConstants.{FIRST_LANE, LANE}
+use Rattle.hlc_svg.specs.declared.frame.TheConstants.{FIRST_LANE, LANE, NAME_ROOM}
 use Rattle.hlc_svg.specs.declared.shapes.Border.{Border}
 use Rattle.hlc_svg.specs.declared.shapes.Border.TheVariants.{Lower}
 use Rattle.hlc_svg.specs.Frame.{lane_x, x_of}
@@ -43,6 +43,11 @@ FirstLaneHasRoom = (lanes : List ℕ) (distance number : ℕ) → number < 2 ^ 3
 -- nor does an arrow over a border that turns on its left
 abbrev pub LeftArrowsHaveRoom : Type 0
 LeftArrowsHaveRoom = (lanes : List ℕ) (half : ℕ) (border : Border) → is_among lanes 0 ≡ false → turn_distance border half < first_lane lanes half
+
+-- the name of a node has room above its lane: half of it to the left border, where the first lane stands, and all of it from one lane to the next, and
+-- from the last one to the columns
+abbrev pub NamesHaveRoom : Type 0
+NamesHaveRoom = (lanes : List ℕ) (half : ℕ) → (CHARACTER * NAME_ROOM / 2 < first_lane lanes half) × (CHARACTER * NAME_ROOM < lane_distance half)
 
 -- how many characters the widest cell of a column has, and its heading
 abbrev pub column_width : Content → List ℕ → (column : ℕ) → ℕ

@@ -7,7 +7,7 @@ use Rattle.hlc_causality.specs.ReceiveEvents.{ClockRules, clock_events}
 use Rattle.hlc_svg.specs.declared.look.Look.{Look}
 
 -- the rules of clocks; the nodes, whether each has a lane even if no event of it is drawn, and the events with the least stamps of such clocks; and
--- what is said of these: the name of each node,
+-- what is said of these: the whole name of each node, and as much of it as stands above its lane,
 -- of each event its number, the one that is shown of it, how a text names it, and its look, and whether they stand in the order of their numbers;
 -- and a row of cells for each, with the heading of
 -- each column: of each cell the text, how many characters of that are seen, and what the title of a dot tells of it
@@ -18,6 +18,7 @@ pub record Content : Type 0 where
   pub events : Skeleton
   pub stamps : List Pair
   pub legend : List ℕ
+  pub whole_name : ℕ → List ℕ
   pub name : ℕ → List ℕ
   pub number : ℕ → ℕ
   pub shown : ℕ → ℕ

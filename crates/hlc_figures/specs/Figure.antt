@@ -1,6 +1,6 @@
 -- What is drawn of an event.
 use Rattle.std.specs.Prelude.{Bool, ℕ, ◌+◌, ◌-◌, ◌*◌, ◌/◌, ◌==◌, ◌&&◌, List, Option, Some, None, find, if◌then◌else◌, nat_le, nat_lt}
-use Rattle.std.specs.Option.{option_and_then}
+use Rattle.std.specs.Option.{option_and_then, option_or}
 use Rattle.hlc_stamp.specs.declared.id.EventId.{EventId}
 use Rattle.hlc_causality.specs.Causality.{skeleton_at}
 use Rattle.hlc_causality.specs.FollowedChains.{is_event}
@@ -10,11 +10,13 @@ use Rattle.hlc_figures.specs.Chosen.{is_marked, next_marked}
 use Rattle.hlc_figures.specs.Content.{Content, clock_events_of, node_at}
 use Rattle.hlc_figures.specs.Lanes.{lane_at}
 use Rattle.hlc_svg.specs.Frame.{aside, point_of, row_of, x_of, y_of}
+use Rattle.hlc_svg.specs.Shapes.{reach_of}
 use Rattle.hlc_svg.specs.declared.frame.Frame.{Frame}
 use Rattle.hlc_svg.specs.declared.frame.TheConstants.{ROW, TOP}
 use Rattle.hlc_svg.specs.declared.arrow.Arrow.{Arrow}
 use Rattle.hlc_svg.specs.declared.shapes.Band.{Band}
 use Rattle.hlc_svg.specs.declared.dot.Dot.{Dot}
+use Rattle.hlc_svg.specs.declared.look.Look.{Look}
 use Rattle.hlc_svg.specs.declared.shapes.Border.{Border}
 use Rattle.hlc_svg.specs.declared.shapes.Border.TheVariants.{Lower, Upper}
 use Rattle.hlc_svg.specs.declared.shapes.End.{End}
@@ -61,7 +63,7 @@ stub_of c explained frame lanes e = option_and_then (stub_to c frame lanes e) (n
 abbrev pub is_step : Content → Option EventId → (d e : ℕ) → Bool
 is_step c explained d e = marked_at c explained e && is_event (forcing_at c e) d
 
--- an arrow runs from the dot of a send to that of a delivery; it is marked if the chain goes along it
+-- an arrow runs from the dot of a send to that of a delivery, or to the ring around that; it is marked if the chain goes along it
 abbrev pub arrow_between : Content → Option EventId → Frame → (lanes : List ℕ) → (sent delivered : ℕ) → Arrow
 arrow_between c explained frame lanes sent delivered = record {
   sent = record { 0 = sent };
@@ -72,6 +74,7 @@ arrow_between c explained frame lanes sent delivered = record {
     below = 0;
     from = record { 0 = lane_at c lanes sent };
     to = record { 0 = lane_at c lanes delivered };
+    reach = reach_of (c.look delivered) frame.half;
     frame = frame;
   };
   is_marked = is_step c explained sent delivered;
@@ -90,6 +93,11 @@ abbrev pub border_of : Frame → Border → ℕ
 border_of frame Upper = TOP
 border_of frame Lower = frame.height
 
+-- how far from a lane an arrow over a border begins or ends beside a dot: what comes in ends at the ring, if there is one
+abbrev pub side_distance : Border → Look → (half : ℕ) → ℕ
+side_distance Upper look half = reach_of look half
+side_distance Lower look half = half
+
 -- how far from a lane an arrow over a border turns, and its number stands: what leaves turns further out than what comes in
 abbrev pub turn_distance : Border → ℕ → ℕ
 turn_distance Upper half = 5 * half / 2 + 10
@@ -107,7 +115,7 @@ is_left c e other = nat_lt (node_at c other) (node_at c e)
 abbrev pub end_at : Content → Frame → (lanes : List ℕ) → Border → (e other : ℕ) → Bool → End
 end_at c frame lanes border e other marked = record {
   border = border;
-  x = aside frame (lane_at c lanes e) (is_left c e other) frame.half;
+  x = aside frame (lane_at c lanes e) (is_left c e other) (side_distance border (c.look e) frame.half);
   number_x = aside frame (lane_at c lanes e) (is_left c e other) (number_distance border frame.half);
   turn_x = aside frame (lane_at c lanes e) (is_left c e other) (turn_distance border frame.half);
   y = y_of frame e;
@@ -135,14 +143,23 @@ goes_on c explained frame e f = is_event (next_of c explained frame) f && is_eve
 abbrev pub first_after : Content → Frame → ℕ → Option ℕ
 first_after c frame e = find (λ f. nat_le frame.end f) (deliveries_of c.events e)
 
--- a send that is delivered after the range has an arrow over the lower border, with the number of the first such delivery; it is marked if
--- the chain goes on along it
+-- the delivery of e with which the chain goes on after the range, if it goes on from e by a message
+abbrev pub step_after : Content → ℕ → (next : Option ℕ) → Option ℕ
+step_after c e None = None
+step_after c e (Some f) = if is_event (forcing_at c f) e && is_event (skeleton_at c.events f).send e then Some f else None
+
+-- the delivery to which an arrow over the lower border leads: that one, or else the first after the range
+abbrev pub delivery_after : Content → Option EventId → Frame → ℕ → Option ℕ
+delivery_after c explained frame e = option_or (step_after c e (next_of c explained frame)) (first_after c frame e)
+
+-- a send that is delivered after the range has an arrow over the lower border, with the number of that delivery; it is marked if the chain goes
+-- on along it
 abbrev pub leaving_to : Content → Option EventId → Frame → (lanes : List ℕ) → ℕ → Option ℕ → Option End
 leaving_to c explained frame lanes e None = None
 leaving_to c explained frame lanes e (Some f) = Some (end_at c frame lanes Lower e f (goes_on c explained frame e f))
 
 abbrev pub leaving_of : Content → Option EventId → Frame → (lanes : List ℕ) → ℕ → Option End
-leaving_of c explained frame lanes e = leaving_to c explained frame lanes e (first_after c frame e)
+leaving_of c explained frame lanes e = leaving_to c explained frame lanes e (delivery_after c explained frame e)
 
 -- the dot of an event
 abbrev pub dot_of : Content → Option EventId → Frame → (lanes : List ℕ) → ℕ → Dot

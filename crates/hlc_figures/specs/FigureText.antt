@@ -30,9 +30,10 @@ pub record Figure : Type 0 where
   pub entering : Option End
   pub leaving : Option End
 
--- a lane with its node's name
+-- a lane with its node's name, whole and as it is shown
 pub record NamedLane : Type 0 where
   pub lane : Lane
+  pub whole_name : List ℕ
   pub name : List ℕ
 
 abbrev pub figure_of : Content → Option EventId → Frame → (lanes : List ℕ) → ℕ → Figure
@@ -53,7 +54,7 @@ abbrev pub lane_below : Frame → (lanes : List ℕ) → (node : ℕ) → Lane
 lane_below frame lanes node = record { node = record { 0 = node }; x = x_of frame (lane_of lanes node); height = frame.height }
 
 abbrev pub named_lane_of : Content → Frame → (lanes : List ℕ) → ℕ → NamedLane
-named_lane_of c frame lanes node = record { lane = lane_below frame lanes node; name = c.name node }
+named_lane_of c frame lanes node = record { lane = lane_below frame lanes node; whole_name = c.whole_name node; name = c.name node }
 
 -- what of an event lies behind the lanes, what leads to it, and what stands before that
 unfoldable pub back_text : Figure → List ℕ
@@ -72,4 +73,4 @@ layer_text Lines = lines_text
 layer_text Front = front_text
 
 abbrev pub named_lane_text : NamedLane → List ℕ
-named_lane_text s = lane_text s.lane s.name
+named_lane_text s = lane_text s.lane s.whole_name s.name

@@ -1,5 +1,5 @@
 -- What stands before the lanes.
-use Rattle.std.specs.Prelude.{ℕ, ◌+◌, ◌-◌, ◌++◌, List, [], ◌∷◌, Option, Some, None, codes, decimal, if◌then◌else◌, length, nat_lt}
+use Rattle.std.specs.Prelude.{ℕ, ◌+◌, ◌-◌, ◌==◌, ◌++◌, List, [], ◌∷◌, Option, Some, None, codes, decimal, if◌then◌else◌, length, nat_lt}
 use Rattle.std.specs.List.{flat_map}
 use Rattle.hlc_stamp.specs.declared.id.EventId.{EventId}
 use Rattle.hlc_figures.specs.Chosen.{chosen}
@@ -60,10 +60,13 @@ root_text frame =
     ++ (decimal frame.height ++ codes "\" xml:space=\"preserve\">\n")))))))
 
 -- the title and the description
+abbrev pub nodes_word : ℕ → List ℕ
+nodes_word count = if count == 1 then codes "node" else codes "nodes"
+
 unfoldable pub description_begins : Frame → (caption : List ℕ) → List ℕ
 description_begins frame caption =
-    codes "<title>Space-time diagram of " ++ (decimal frame.nodes ++ (codes " nodes</title>\n<desc>" ++ (caption ++ (codes " "
-    ++ (LEGEND.now ++ codes " ")))))
+    codes "<title>Space-time diagram of " ++ (decimal frame.nodes ++ (codes " " ++ (nodes_word frame.nodes ++ (codes "</title>\n<desc>" ++ (caption ++ (codes " "
+    ++ (LEGEND.now ++ codes " ")))))))
 
 -- that some nodes have no lane, if there are any
 abbrev pub laneless_text : Frame → List ℕ

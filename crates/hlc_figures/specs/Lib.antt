@@ -11,6 +11,7 @@ pub mod Row
 pub mod Scene
 pub mod Title
 pub use Rattle.hlc_svg.specs.Clear
+pub use Rattle.hlc_svg.specs.CutLabel
 pub use Rattle.hlc_svg.specs.Frame
 pub use Rattle.hlc_svg.specs.Label
 pub use Rattle.hlc_svg.specs.LabelLaws

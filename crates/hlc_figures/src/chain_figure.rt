@@ -1,18 +1,16 @@
 // What is drawn of the events of a chain.
 
 ghost use Rattle.std.specs.Prelude.{◌≡◌, ◌++◌, ◌<◌, OnOk, length, string_bytes};
-ghost use Rattle.hlc_causality.specs.Causality.{skeleton_at};
-ghost use Rattle.hlc_causality.specs.FollowedChains.{is_event};
 ghost use Rattle.hlc_figures.specs.ChainFigure.{StopExists, band_in, counted_in, counted_text, dot_in, events_word, stop_arrow, stop_link};
 
 use crate::chain_rows::{Gap, Standing, Stop};
-use crate::kept::{node, send};
+use crate::kept::{delivers, node};
 use crate::lanes::lane;
 use crate::scene::Scene;
 use crate::subject::Subject;
 use hlc_stamp::EventId;
 use hlc_svg::arrow::Arrow;
-use hlc_svg::dot::Dot;
+use hlc_svg::dot::{Dot, reach};
 use hlc_svg::frame::{Frame, LaneId, ROW, row_y, x};
 use hlc_svg::route::Route;
 use hlc_svg::shapes::{Band, Link, Point};
@@ -71,17 +69,6 @@ pub fn stop_link<S: Subject>(subject: &S, scene: &Scene<'_>, stop: Stop) -> Opti
     })
 }
 
-// Whether one event delivers another.
-fn delivers<S: Subject>(subject: &S, event: EventId, sent: EventId) -> bool
-    requires { event.0 < length (S.content subject.now).events }
-    ensures { result ≡ is_event (skeleton_at (S.content subject.now).events event.0).send sent.0 }
-{
-    match send(subject, event) {
-        Some(send) => send.0 == sent.0,
-        None => false,
-    }
-}
-
 /// The step to an event by a message.
 pub fn stop_arrow<S: Subject>(subject: &S, scene: &Scene<'_>, stop: Stop) -> Option<Arrow>
     requires { StopExists (S.content subject.now) stop }
@@ -100,6 +87,7 @@ pub fn stop_arrow<S: Subject>(subject: &S, scene: &Scene<'_>, stop: Stop) -> Opt
             below: 0,
             from: lane(subject, scene.lanes, before.event),
             to: lane(subject, scene.lanes, at.event),
+            reach: reach(subject.look(at.event), scene.frame.half),
             frame: scene.frame,
         },
         is_marked: true,

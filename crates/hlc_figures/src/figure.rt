@@ -1,18 +1,20 @@
 // What is drawn of an event.
 
-ghost use Rattle.std.specs.Prelude.{◌≡◌, ◌<◌, length};
+ghost use Rattle.std.specs.Prelude.{◌≡◌, ◌<◌, IfSome, length};
 ghost use Rattle.hlc_causality.specs.FollowedChains.{is_event};
-ghost use Rattle.hlc_figures.specs.Figure.{arrow_of, band_of, border_of, dot_of, end_at, entering_of, is_left, is_step, leaving_of, link_of, link_top, next_of, number_distance, stub_of, turn_distance};
+ghost use Rattle.hlc_causality.specs.Neighbours.{place_of};
+ghost use Rattle.hlc_figures.specs.Figure.{arrow_of, band_of, border_of, delivery_after, dot_of, end_at, entering_of, is_left, is_step, leaving_of, link_of, link_top, next_of, number_distance, side_distance, step_after, stub_of, turn_distance};
 ghost use Rattle.hlc_figures.specs.Scene.{IsDrawn, IsScene};
 
-use crate::kept::{first_after, forcing, is_forced_by, node, send};
+use crate::kept::{delivers, first_after, forcing, is_forced_by, node, send};
 use crate::lanes::lane;
 use crate::scene::{Scene, is_marked, point};
 use crate::subject::Subject;
 use hlc_stamp::EventId;
 use hlc_svg::arrow::Arrow;
-use hlc_svg::dot::Dot;
+use hlc_svg::dot::{Dot, reach};
 use hlc_svg::frame::{Frame, ROW, TOP, aside, row, x, y};
+use hlc_svg::look::Look;
 use hlc_svg::route::Route;
 use hlc_svg::shapes::{Band, Border, End, Link};
 
@@ -62,13 +64,23 @@ pub fn link<S: Subject>(subject: &S, scene: &Scene<'_>, event: EventId) -> Optio
     })
 }
 
+// The event with which the marked chain goes on after the range.
+fn next<S: Subject>(subject: &S, scene: &Scene<'_>) -> Option<EventId>
+    requires { IsScene (S.content subject.now) scene.now }
+    ensures next { place_of result ≡ next_of (S.content subject.now) scene.now.explained scene.now.frame }
+    ensures exists { IfSome result (λ next. next.0 < length (S.content subject.now).events) }
+{
+    let _of = subject;
+    scene.next
+}
+
 /// The step of the marked chain that leads from an event along its lane over the lower border.
 pub fn stub<S: Subject>(subject: &S, scene: &Scene<'_>, event: EventId) -> Option<Link>
     requires scene { IsScene (S.content subject.now) scene.now }
     requires drawn { IsDrawn scene.now.frame event.0 }
     ensures { result ≡ stub_of (S.content subject.now) scene.now.explained scene.now.frame scene.now.lanes.now event.0 }
 {
-    let next = scene.next?;
+    let next = next(subject, scene)?;
     let (after, at) = (node(subject, next), node(subject, event));
     if !is_forced_by(subject, next, event) || after.0 != at.0 {
         return None;
@@ -108,6 +120,7 @@ pub fn arrow<S: Subject>(subject: &S, scene: &Scene<'_>, event: EventId) -> Opti
             below: 0,
             from: lane(subject, scene.lanes, sent),
             to: lane(subject, scene.lanes, event),
+            reach: reach(subject.look(event), scene.frame.half),
             frame: scene.frame,
         },
         is_marked: is_step(subject, scene, sent, event),
@@ -131,6 +144,16 @@ pub(crate) fn turn_distance(border: Border, half: u8) -> u16
     match border {
         Border::Upper => 5 * u16::from(half) / 2 + 10,
         Border::Lower => 5 * u16::from(half) / 2 + 16,
+    }
+}
+
+// How far from a lane it begins or ends beside a dot: one that comes in ends at the ring, if there is one.
+fn side_distance(border: Border, look: Look, half: u8) -> u16
+    ensures { result ≡ side_distance border look half }
+{
+    match border {
+        Border::Upper => reach(look, half),
+        Border::Lower => u16::from(half),
     }
 }
 
@@ -173,7 +196,12 @@ fn end<S: Subject>(
     );
     End {
         border,
-        x: aside(frame, at, is_left, u16::from(half)),
+        x: aside(
+            frame,
+            at,
+            is_left,
+            side_distance(border, subject.look(event), half),
+        ),
         number_x: aside(frame, at, is_left, number_distance(border, half)),
         turn_x: aside(frame, at, is_left, turn_distance(border, half)),
         y: y(frame, event),
@@ -210,13 +238,40 @@ fn is_next<S: Subject>(subject: &S, scene: &Scene<'_>, event: EventId) -> bool
     }
 }
 
-/// The arrow out of the range from a send, if a delivery comes after that.
+// The delivery of a send with which the chain goes on after the range, if it goes on from there by a message.
+fn step_after<S: Subject>(subject: &S, scene: &Scene<'_>, event: EventId) -> Option<EventId>
+    requires scene { IsScene (S.content subject.now) scene.now }
+    ensures step { place_of result ≡ step_after (S.content subject.now) event.0 (next_of (S.content subject.now) scene.now.explained scene.now.frame) }
+    ensures exists { IfSome result (λ next. next.0 < length (S.content subject.now).events) }
+{
+    let next = next(subject, scene)?;
+    if is_forced_by(subject, next, event) && delivers(subject, next, event) {
+        Some(next)
+    } else {
+        None
+    }
+}
+
+// The delivery to which an arrow over the lower border leads: that one, or else the first after the range.
+fn delivery_after<S: Subject>(subject: &S, scene: &Scene<'_>, event: EventId) -> Option<EventId>
+    requires scene { IsScene (S.content subject.now) scene.now }
+    requires event { event.0 < length (S.content subject.now).events }
+    ensures delivery { place_of result ≡ delivery_after (S.content subject.now) scene.now.explained scene.now.frame event.0 }
+    ensures exists { IfSome result (λ delivery. delivery.0 < length (S.content subject.now).events) }
+{
+    match step_after(subject, scene, event) {
+        Some(next) => Some(next),
+        None => first_after(subject, scene.frame, event),
+    }
+}
+
+/// The arrow out of the range from a send, if a delivery comes after that: to the one with which the chain goes on, or to the first.
 pub fn leaving<S: Subject>(subject: &S, scene: &Scene<'_>, event: EventId) -> Option<End>
     requires scene { IsScene (S.content subject.now) scene.now }
     requires drawn { IsDrawn scene.now.frame event.0 }
     ensures { result ≡ leaving_of (S.content subject.now) scene.now.explained scene.now.frame scene.now.lanes.now event.0 }
 {
-    let delivered = first_after(subject, scene.frame, event)?;
+    let delivered = delivery_after(subject, scene, event)?;
     let is_marked = is_next(subject, scene, delivered) && is_forced_by(subject, delivered, event);
     Some(end(subject, scene, Border::Lower, event, delivered, is_marked))
 }

@@ -18,6 +18,7 @@ use hlc_svg::dot::{Dot, put_dot_end, put_dot_start, put_ring};
 use hlc_svg::frame::{Frame, x, y};
 use hlc_svg::pieces::{put_arrow, put_band, put_end, put_link};
 use hlc_svg::shapes::{Lane, put_lane_line, put_lane_start};
+use hlc_svg::text::put;
 use std::alloc::AllocError;
 
 /// The dot of an event, with its title.
@@ -58,7 +59,7 @@ fn lane_below(frame: Frame, lanes: &Lanes, node: NodeId) -> Lane
     }
 }
 
-/// The name of a node, and its lane below.
+/// The name of a node, with the whole of it as its title, and its lane below.
 pub fn put_lane<S: Subject>(
     text: &mut String,
     subject: &S,
@@ -72,6 +73,8 @@ pub fn put_lane<S: Subject>(
 {
     let lane = lane_below(frame, lanes, node);
     put_lane_start(text, lane)?;
+    subject.put_whole_name(text, node)?;
+    put(text, "</title>")?;
     subject.put_name(text, node)?;
     put_lane_line(text, lane)
 }

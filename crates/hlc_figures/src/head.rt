@@ -3,7 +3,7 @@
 ghost use Rattle.std.specs.Prelude.{◌≡◌, ◌++◌, ◌<◌, OnOk, map, string_bytes};
 ghost use Rattle.hlc_causality.specs.Places.{places_below};
 ghost use Rattle.hlc_figures.specs.Columns.{AreColumnsOf};
-ghost use Rattle.hlc_figures.specs.Head.{description_begins, description_text, ground_text, head_text, heading_begins, heading_of, heading_text, headings_text, laneless_text, root_text};
+ghost use Rattle.hlc_figures.specs.Head.{description_begins, description_text, ground_text, head_text, heading_begins, heading_of, heading_text, headings_text, laneless_text, nodes_word, root_text};
 
 use crate::row::column_x;
 use crate::scene::Scene;
@@ -16,7 +16,7 @@ use std::alloc::AllocError;
 pub(crate) const LEGEND: &str =
     "Time runs down. Each node has a lane, each event a dot on it with its number, and beside it a row. \
 An arrow runs from each send to each delivery of its message. A dashed one comes \
-in over the upper border, with the number of its send, or leaves over the lower one, with the number of the first delivery \
+in over the upper border, with the number of its send, or leaves over the lower one, with the number of a delivery \
 there. What is marked is filled, thick and on a band. The title of a dot tells what is known of its event.";
 
 // How things look, in this picture and nowhere else in a page that it stands in. Against the ground each text has a contrast of
@@ -27,14 +27,14 @@ pub(crate) const STYLE: &str = "<style type=\"text/css\">\
 .hlc polyline{fill:none}.hlc .m,.hlc .e{stroke:#2f5f94;stroke-width:1.5;marker-end:url(#hlc-a)}\
 .hlc .p,.hlc .q{stroke:#a3300d;stroke-width:3;marker-end:url(#hlc-b)}.hlc .e{stroke-dasharray:3 3}.hlc .q{stroke-dasharray:6 4}\
 .hlc .x,.hlc .c{stroke:#5c5c5c;stroke-width:2}.hlc .x{stroke-width:1.5;stroke-dasharray:9 3 2 3;marker-end:url(#hlc-c)}\
-.hlc .f{font-size:10px;text-anchor:middle}.hlc .f,.hlc .t{fill:#2f5f94}.hlc .u{fill:#a3300d}\
+.hlc .f,.hlc .y{font-size:10px;text-anchor:middle;stroke:#fff;stroke-width:4;paint-order:stroke}.hlc .f,.hlc .t{fill:#2f5f94}.hlc .y{fill:#5c5c5c}.hlc .u{fill:#a3300d}\
 .hlc g rect,.hlc g polygon{fill:#fff;stroke-width:2}.hlc .k rect,.hlc .k polygon{fill:#a3300d}\
 .hlc g .r{fill:none;stroke:#222}.hlc .pill{stroke:#2f5f94}.hlc .box{stroke:#1c6b3c}.hlc .hexagon{stroke:#8a5a00}\
 .hlc .slant{stroke:#6b3fa0}.hlc .peak{stroke:#a01c68}.hlc .dip{stroke:#0f6674}\
 .hlc g text{font:bold 11px sans-serif;text-anchor:middle}.hlc .k text{fill:#fff}\
 @media (prefers-color-scheme:dark){.hlc text{fill:#e8e8e8}.hlc .h{fill:#b4b4b4}.hlc .w{fill:#16191d}.hlc .l{stroke:#6a7078}\
 .hlc .b{fill:#3a2821}.hlc .v,.hlc .p,.hlc .q{stroke:#ff9a76}.hlc .m,.hlc .e{stroke:#8bb8ea}.hlc .x,.hlc .c{stroke:#b4b4b4}\
-.hlc .f,.hlc .t{fill:#8bb8ea}.hlc .u{fill:#ff9a76}.hlc g rect,.hlc g polygon{fill:#16191d}.hlc .k rect,.hlc .k polygon{fill:#ff9a76}\
+.hlc .f,.hlc .y{stroke:#16191d}.hlc .f,.hlc .t{fill:#8bb8ea}.hlc .y{fill:#b4b4b4}.hlc .u{fill:#ff9a76}.hlc g rect,.hlc g polygon{fill:#16191d}.hlc .k rect,.hlc .k polygon{fill:#ff9a76}\
 .hlc g .r{fill:none;stroke:#e8e8e8}.hlc .pill{stroke:#8bb8ea}.hlc .box{stroke:#7fd09b}.hlc .hexagon{stroke:#e6b450}\
 .hlc .slant{stroke:#c4a5f0}.hlc .peak{stroke:#f08cc4}.hlc .dip{stroke:#6fd0de}.hlc .k text{fill:#16191d}}</style>\n\
 <defs><marker id=\"hlc-a\" viewBox=\"0 0 10 10\" refX=\"10\" refY=\"5\" markerWidth=\"7\" markerHeight=\"7\" orient=\"auto\">\
@@ -56,15 +56,22 @@ fn put_root(text: &mut String, frame: Frame) -> Result<(), AllocError>
     )
 }
 
+// The word for so many nodes.
+fn nodes_word(count: u16) -> &'static str
+    ensures { result.now ≡ nodes_word count }
+{
+    if count == 1 { "node" } else { "nodes" }
+}
+
 // The title, and the description but for the legend.
-#[tactic(auto, unfolding(crate::specs::Head::description_begins))]
 fn put_description_start(text: &mut String, frame: Frame, caption: &str) -> Result<(), AllocError>
     ensures { OnOk result (string_bytes text.new ≡ string_bytes text.old ++ description_begins frame caption.now) }
 {
     let nodes = frame.nodes;
+    let word = nodes_word(nodes);
     write!(
         text,
-        "<title>Space-time diagram of {nodes} nodes</title>\n<desc>{caption} {LEGEND} "
+        "<title>Space-time diagram of {nodes} {word}</title>\n<desc>{caption} {LEGEND} "
     )
 }
 

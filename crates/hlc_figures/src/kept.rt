@@ -53,6 +53,17 @@ pub(crate) fn send<S: Subject>(subject: &S, event: EventId) -> Option<EventId>
     kept(subject, event).send
 }
 
+/// Whether one event delivers another.
+pub(crate) fn delivers<S: Subject>(subject: &S, event: EventId, sent: EventId) -> bool
+    requires { event.0 < length (S.content subject.now).events }
+    ensures { result ≡ is_event (skeleton_at (S.content subject.now).events event.0).send sent.0 }
+{
+    match send(subject, event) {
+        Some(send) => send.0 == sent.0,
+        None => false,
+    }
+}
+
 /// The forcing event of an event.
 pub(crate) fn forcing<S: Subject>(subject: &S, event: EventId) -> Option<EventId>
     requires { event.0 < length (S.content subject.now).events }

@@ -6,7 +6,7 @@ use std::alloc::AllocError;
 /// What a diagram shows: an execution with least stamps, whatever the rules of its clocks, and what is said of its nodes and events.
 ///
 /// All text is put into the picture as it is, so it has to be escaped as XML wants it: `put_label` does that. A name has room
-/// for some 12 characters, a heading for as many as a cell of its column, and for `LEAST_WIDTH` at least.
+/// for `NAME_ROOM` characters, to which `put_cut_label` cuts it, a heading for as many as a cell of its column, and for `LEAST_WIDTH` at least.
 pub trait Subject {
     ghost use Rattle.std.specs.Prelude.{◌≡◌, ◌++◌, ◌<◌, OnOk, length, string_bytes};
     ghost use Rattle.hlc_figures.specs.Content.{Content, clock_events_of};
@@ -29,7 +29,12 @@ pub trait Subject {
     fn put_legend(&self, text: &mut String) -> Result<(), AllocError>
         ensures { OnOk result (string_bytes text.new ≡ string_bytes text.old ++ (content self.now).legend) };
 
-    /// The name of a node, which stands above its lane.
+    /// The whole name of a node.
+    fn put_whole_name(&self, text: &mut String, node: NodeId) -> Result<(), AllocError>
+        requires { node.0 < (content self.now).nodes }
+        ensures { OnOk result (string_bytes text.new ≡ string_bytes text.old ++ (content self.now).whole_name node.0) };
+
+    /// As much of it as stands above its lane, where there is room for `NAME_ROOM` characters.
     fn put_name(&self, text: &mut String, node: NodeId) -> Result<(), AllocError>
         requires { node.0 < (content self.now).nodes }
         ensures { OnOk result (string_bytes text.new ≡ string_bytes text.old ++ (content self.now).name node.0) };

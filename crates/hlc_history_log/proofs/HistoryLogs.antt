@@ -164,7 +164,7 @@ module _ (h : History) (well : IsWellFormed h) (told : List NamedEvent) (text : 
   messages = message_names told
 
   abbrev no_name : NamedEvent
-  no_name = with_names text.nodes messages no_event
+  no_name = with_names text.details.nodes messages no_event
 
   small : (e : ℕ) → e < length h.events → e < 2 ^ 64
   small e lt = let a = well.within_capacity in let b = well.small_capacity in omega arith
@@ -197,7 +197,7 @@ module _ (h : History) (well : IsWellFormed h) (told : List NamedEvent) (text : 
   as_read = is_as_read told text is_log all_named
 
   size : length log ≡ length h.events
-  size = sym (length-map log (with_names text.nodes messages)) ∙ ap length as_read.told ∙ length-map told without_asides ∙ tells.one_each
+  size = sym (length-map log (with_names text.details.nodes messages)) ∙ ap length as_read.told ∙ length-map told without_asides ∙ tells.one_each
 
   exists : (e : ℕ) → e < length h.events → e < length log
   exists e lt = let same = size in omega arith
@@ -206,13 +206,13 @@ module _ (h : History) (well : IsWellFormed h) (told : List NamedEvent) (text : 
   exists_back e lt = let same = size in omega arith
 
   -- what is told of the event at a place
-  named_as : (e : ℕ) → e < length h.events → with_names text.nodes messages (event_at log e) ≡ without_asides (slice_index_or told e no_name)
+  named_as : (e : ℕ) → e < length h.events → with_names text.details.nodes messages (event_at log e) ≡ without_asides (slice_index_or told e no_name)
   named_as e lt =
-      sym (get_or-map (with_names text.nodes messages) log e no_event no_name (exists e lt))
+      sym (get_or-map (with_names text.details.nodes messages) log e no_event no_name (exists e lt))
       ∙ ap (λ (events : List NamedEvent). slice_index_or events e no_name) as_read.told
       ∙ get_or-map without_asides told e no_name no_name (let same = tells.one_each in omega arith)
 
-  tells_of : (e : ℕ) → e < length h.events → HasTold h.events e (with_names text.nodes messages (event_at log e))
+  tells_of : (e : ℕ) → e < length h.events → HasTold h.events e (with_names text.details.nodes messages (event_at log e))
   tells_of e lt =
       let is = named_as e lt in
       let t = tells.each e no_name lt in
@@ -228,10 +228,10 @@ module _ (h : History) (well : IsWellFormed h) (told : List NamedEvent) (text : 
         seq = ap (λ (n : NamedEvent). n.seq) is ∙ t.seq;
       }
 
-  named : (e : ℕ) → e < length h.events → IsNamed text.nodes messages (event_at log e)
+  named : (e : ℕ) → e < length h.events → IsNamed text.details.nodes messages (event_at log e)
   named e lt = as_read.named e no_event (exists e lt)
 
-  nodes_once : EachNameOnce text.nodes
+  nodes_once : EachNameOnce text.details.nodes
   nodes_once = subst EachNameOnce (sym is_log.nodes) (mentions_once _)
 
   messages_once : EachNameOnce messages
@@ -252,7 +252,7 @@ module _ (h : History) (well : IsWellFormed h) (told : List NamedEvent) (text : 
       let later = exists_back e is.exists in
       let first = exists_back d is.first_exists in
       let names : decimal (history_event_at h.events d).node ≡ decimal (history_event_at h.events e).node =
-      sym (tells_of d first).node ∙ ap (name_of text.nodes) is.same_node ∙ (tells_of e later).node in
+      sym (tells_of d first).node ∙ ap (name_of text.details.nodes) is.same_node ∙ (tells_of e later).node in
       let same = decimal_injective _ _ (node_small d first) (node_small e later) names in
       record {
         earlier = stands_by_place log seqs_rise d e is.first_exists is.before;
@@ -268,13 +268,13 @@ module _ (h : History) (well : IsWellFormed h) (told : List NamedEvent) (text : 
       let later : e < length h.events = omega arith in
       let first : d < length h.events = omega arith in
       let same : (history_event_at h.events d).node ≡ (history_event_at h.events e).node = sym (skeleton_node d) ∙ is.same_node ∙ skeleton_node e in
-      let names : name_of text.nodes (event_at log d).node.0 ≡ name_of text.nodes (event_at log e).node.0 =
+      let names : name_of text.details.nodes (event_at log d).node.0 ≡ name_of text.details.nodes (event_at log e).node.0 =
       (tells_of d first).node ∙ ap decimal same ∙ sym (tells_of e later).node in
       record {
         before = place_stands log seqs_rise d e before (exists e later);
         first_exists = exists d first;
         exists = exists e later;
-        same_node = same_number text.nodes _ _ nodes_once (named d first).0 (named e later).0 names;
+        same_node = same_number text.details.nodes _ _ nodes_once (named d first).0 (named e later).0 names;
       }
 
   -- a send of the log has the name of its number

@@ -193,18 +193,18 @@ module _ (h : History) (clocked : IsClocked h) where
       subst (λ (events : List NamedEvent). IsLogOf events text) (ap events_in same ∙ events_told told) read.held.log in
       is_history_log h clocked.well_formed told text is_log tells_history
 
-  nothing_is_asked : (text : LogText) → IsLogRead h text → text.questions.items ≡ []
+  nothing_is_asked : (text : LogText) → IsLogRead h text → text.details.questions ≡ []
   nothing_is_asked text read =
-      none_mapped plain_asked text.questions.items (read.held.questions ∙ ap questions_in (items_read text read) ∙ nothing_asked told)
+      none_mapped plain_asked text.details.questions (read.held.questions ∙ ap questions_in (items_read text read) ∙ nothing_asked told)
 
-  nothing_is_skipped : (text : LogText) → IsLogRead h text → text.skipped ≡ None
+  nothing_is_skipped : (text : LogText) → IsLogRead h text → text.details.skipped ≡ None
   nothing_is_skipped text read =
       let lines = told_lines (log_text h.events) in
       read.skipped ∙ ap (λ (items : List LogItem). skipped_in items lines) (items_read text read) ∙ ap skipped_on (nothing_skipped told lines)
 
-  nothing_is_left_out : (text : LogText) → IsLogRead h text → text.left_out.items ≡ []
+  nothing_is_left_out : (text : LogText) → IsLogRead h text → text.details.left_out ≡ []
   nothing_is_left_out text read =
-      none_mapped (λ (b : BadLine). b.why) text.left_out.items (read.held.left_out ∙ ap reasons_in (items_read text read) ∙ nothing_bad told)
+      none_mapped (λ (b : BadLine). b.why) text.details.left_out (read.held.left_out ∙ ap reasons_in (items_read text read) ∙ nothing_bad told)
 
 pub rows_make_events : RowsMakeEvents
 rows_make_events h clocked = (told h clocked, makes_items h clocked, tells_history h clocked)
@@ -213,7 +213,7 @@ pub logs_have_an_order : LogsHaveAnOrder
 logs_have_an_order h text clocked read =
     let few = clocked.well_formed.within_capacity in
     let small = clocked.well_formed.small_capacity in
-    log_in_own_order h.events text.log.events (length text.nodes) read.held.log.few_nodes (read_names (events_in read.items) text read.held.log)
+    log_in_own_order h.events text.log.events (length text.details.nodes) read.held.log.few_nodes (read_names (events_in read.items) text read.held.log)
     (log_is_read h clocked text read) (omega arith) clocked.readings
 
 pub logs_tell_events_alone : LogsTellEventsAlone

@@ -101,7 +101,7 @@ LogsHaveAnOrder = (h : History) (text : LogText) → IsClocked h → IsLogRead h
 -- whoever reads the log has an event for each of the history's, and is asked nothing, and nothing was left out
 abbrev pub LogsTellEventsAlone : Type 0
 LogsTellEventsAlone = (h : History) (text : LogText) → IsClocked h → IsLogRead h text →
-    (length text.log.events ≡ length h.events) × (text.questions.items ≡ []) × (text.skipped ≡ None) × (text.left_out.items ≡ [])
+    (length text.log.events ≡ length h.events) × (text.details.questions ≡ []) × (text.details.skipped ≡ None) × (text.details.left_out ≡ [])
 
 -- and the log tells what each event's clock read
 abbrev pub LogsTellReadings : Type 0

@@ -1,16 +1,10 @@
 -- Answers, one after another.
 use Rattle.hlc_log_text.specs.declared.file_mark.FileMark.{FileMark}
-use Rattle.std.proofs.Common.{◌≡◌, ◌∙◌, List, [], ◌∷◌, ◌++◌, ◌+◌, ◌<◌, ℕ, ap, get_or, length, map, take}
-use Rattle.std.proofs.lemmas.List.{map_push, take_more}
+use Rattle.std.proofs.Common.{List, [], ◌∷◌, ◌++◌, ℕ}
 use Rattle.hlc_csv.specs.Rows.{Fields}
 use Rattle.hlc_log_report.specs.InOrder.{LogInOrder}
 use Rattle.hlc_log_text.specs.Question.{Asked}
 use Rattle.hlc_log_audit.specs.Answers.{AreAnswers, IsAnswer}
-
--- the positions of one line more
-pub positions_more : (at : ℕ → ℕ) (lines : List ℕ) (i d : ℕ) → i < length lines
-    → map at (take (i + 1) lines) ≡ map at (take i lines) ++ at (get_or lines i d) ∷ []
-positions_more at lines i d lt = ap (map at) (take_more lines i d lt) ∙ map_push at (take i lines) (get_or lines i d)
 
 module _ (files : List FileMark) (nodes : List (List ℕ)) (labels : List (ℕ × List ℕ)) (log : LogInOrder) (full : ℕ) where
   pub answers_push : (questions : List Asked) (rows : List Fields) (question : Asked) (row : Fields)

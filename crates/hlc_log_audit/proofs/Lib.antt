@@ -4,12 +4,14 @@ pub mod CauseRows
 pub mod CleanReports
 pub mod DriftEvents
 pub mod EventsInOrder
-pub mod Found
+pub mod FirstToBreak
 pub mod LeastStamps
 pub mod LineFacts
 pub mod OverLimits
 pub mod OverRows
 pub mod ReorderedAnswers
+pub mod ReorderedPaths
+pub mod ReorderedTaints
 pub mod RowsAdded
 pub mod SameAnswers
 pub mod SameAudits

@@ -1,9 +1,10 @@
 -- The answers about one log, in two causal orders.
 use Rattle.hlc_log_text.specs.declared.file_mark.FileMark.{FileMark}
 use Rattle.hlc_log_text.specs.Files.{line_at, line_text, location_text}
-use Rattle.hlc_log_audit.specs.Answers.{line_or_none, told_in}
-use Rattle.std.proofs.Common.{◌≡◌, ◌∙◌, Bool, true, cond, ℕ, suc, ◌+◌, ◌==◌, ◌<◌, List, [], ◌∷◌, length, get_or, map, Option, Some, None, arith, refl, subst, sym, ap}
+use Rattle.hlc_log_audit.specs.Answers.{told_in}
+use Rattle.std.proofs.Common.{◌≡◌, ◌∙◌, ◌++◌, Bool, true, false, cond, ℕ, suc, ◌+◌, ◌==◌, ◌<◌, List, [], ◌∷◌, length, get_or, map, Option, Some, None, arith, refl, subst, sym, ap}
 use Rattle.std.specs.Prelude.{All, Contains, IfSome, codes, decimal, option_map, position, unwrap_or}
+use Rattle.std.specs.Option.{option_and_then}
 use Rattle.std.specs.List.{IsDistinct}
 use Rattle.std.specs.List.Sorted.{IsStrictlyIncreasing}
 use Rattle.std.specs.Str.{bytes_eq}
@@ -25,12 +26,18 @@ use Rattle.hlc_causality.specs.Past.{LeadsTo}
 use Rattle.hlc_causality.proofs.ClockChains.{ticks_among_more}
 use Rattle.hlc_causality.proofs.ClockEvents.{skeleton_size}
 use Rattle.hlc_causality.proofs.ClockExplanation.{clock_explained_is_tested}
-use Rattle.hlc_causality.proofs.Predecessors.{direct_exists}
+use Rattle.hlc_causality.proofs.PlacesBelow.{contains_passing, passing_from_contains, passing_places_rise}
 use Rattle.hlc_explain.specs.Findings.{IsRelationOf, influenced_by, relation_of}
+use Rattle.hlc_explain.specs.Paths.{path_of}
+use Rattle.hlc_explain.specs.Taints.{is_raised, tainted_by}
 use Rattle.hlc_explain.specs.Words.{relation_word}
 use Rattle.hlc_explain.specs.declared.answers.Drift.{Drift}
+use Rattle.hlc_explain.specs.declared.answers.Missing.TheVariants as missing
 use Rattle.hlc_explain.specs.declared.answers.Relation.{Relation}
 use Rattle.hlc_explain.proofs.Findings.{influenced_are_found, relation_is, relations_are_found, rising_is_unique}
+use Rattle.hlc_answers.specs.Answer.{Answer, answer_row, last_field, path_answer, set_answer, way_answer, word_answer}
+use Rattle.hlc_answers.specs.EventQuestion as about
+use Rattle.hlc_answers.specs.EventQuestion.{EventQuestion}
 use Rattle.hlc_verdict.specs.declared.verdict.Verdict.TheVariants as verdict
 use Rattle.hlc_causes.specs.declared.answers.Finding.{Finding}
 use Rattle.hlc_causes.specs.declared.answers.Finding.TheVariants.{Judged, RolledOver}
@@ -42,7 +49,7 @@ use Rattle.hlc_log.specs.Reordering.{HaveEqualPairs, IsClockReordering, IsReorde
 use Rattle.hlc_log.proofs.CausalOrders.{place_in_order}
 use Rattle.hlc_log.proofs.OrderSkeletons.{place_exists, same_position, skeleton_in_at}
 use Rattle.hlc_log.proofs.ClockReorderedChains.{clock_reordering_keeps_chains}
-use Rattle.hlc_log.proofs.Reorderings.{direct_kept, reordering_keeps_happened_before}
+use Rattle.hlc_log.proofs.Reorderings.{direct_kept, reordering_keeps_happened_before, turned}
 use Rattle.hlc_log_report.specs.Found.{FindsAt}
 use Rattle.hlc_log_report.specs.InOrder.{IsInOrder, LogInOrder, claimed_of, clocks_of, event_in_order, line_in, skeleton_of}
 use Rattle.hlc_log_report.specs.Moved.{moved_finding}
@@ -54,20 +61,28 @@ use Rattle.hlc_log_report.proofs.Found.{one_found}
 use Rattle.hlc_log_report.proofs.SeenTraces.{findings_agree}
 use Rattle.hlc_log_report.proofs.ReorderedTraces.{claims_moved, least_moved, logs_are_reordered_traces, moved_there}
 use Rattle.hlc_log_text.specs.Labels.{label_at}
+use Rattle.hlc_log_text.specs.CauseWord.{cause_text}
+use Rattle.hlc_log_text.specs.declared.cause_word.CauseWord.{CauseWord}
+use Rattle.hlc_log_text.specs.declared.location.Location.{Location}
 use Rattle.hlc_log_text.specs.LogText.{name_of}
-use Rattle.hlc_log_text.specs.Question.{Asked, Check, Claimed, Drift as DriftAsked, Event, Explain, Influenced, Relation as RelationAsked}
-use Rattle.hlc_log_audit.specs.Answers.{AreRisingLinesOf, IfEvent, IsAnswer, TellsEvent, TellsInfluenced, chain_fields, claimed_fields, drift_fields, drift_in, drift_row, event_fields_at, explains, if_event, label_fields, reading_field, relation_fields, way_fields}
+use Rattle.hlc_log_text.specs.Question.{Asked, Check, Claimed, Drift as DriftAsked, Event, Explain, First, Influenced, Relation as RelationAsked, Tainted, Why}
+use Rattle.hlc_log_audit.specs.Answers.{AnswersAt, AnswersCheck, AnswersFirst, AreRisingLinesOf, IfEvent, IsAnswer, TellsAnswer, TellsEvent, claimed_fields, drift_fields, drift_in, drift_row, event_fields_at, found_in, if_event, label_fields, line_or_none, position_at, position_or_end, reading_field, way_fields}
 use Rattle.hlc_log_audit.specs.ClaimedWay.{claimed_way}
 use Rattle.hlc_log_audit.specs.Laws.{AnswersAgree}
 use Rattle.hlc_open_log.specs.Opened.{LinesRise}
-use Rattle.hlc_log_audit.specs.Lines.{HasNumbers, IsOnLine, position_on, position_or_end}
+use Rattle.hlc_log_audit.specs.Lines.{HasNumbers, IsOnLine, position_on}
 use Rattle.hlc_log_audit.specs.Moved.{moved_drift}
-use Rattle.hlc_log_audit.specs.Words.{found_word}
+use Rattle.hlc_log_audit.specs.Words.{found_word, missing_row}
 use Rattle.hlc_log_audit.proofs.DriftEvents.{drift_event_exists, drift_origin_exists}
-use Rattle.hlc_log_audit.proofs.Found.{influenced_within}
+use Rattle.hlc_answers.proofs.Asked.{among_within}
+use Rattle.hlc_answers.proofs.Found.{answer_within, chain_within, influenced_within, leads_within, tainted_within}
+use Rattle.hlc_log_audit.specs.FirstToBreak.{NamesFirstToBreak}
+use Rattle.hlc_log_audit.proofs.FirstToBreak.{first_moved, one_first}
 use Rattle.hlc_log_audit.proofs.LineFacts.{on_line, one_on_line, position_of_found, position_of_none}
 use Rattle.hlc_log_audit.proofs.ReorderedAnswers.{drifts_agree, ways_agree}
-use Rattle.hlc_log_audit.proofs.Ways.{chain_within, claimed_way_within}
+use Rattle.hlc_log_audit.proofs.ReorderedPaths.{reordering_keeps_paths}
+use Rattle.hlc_log_audit.proofs.ReorderedTaints.{reordering_keeps_taints}
+use Rattle.hlc_log_audit.proofs.Ways.{claimed_way_within}
 
 -- logs with the same events
 module _ (log other : LogInOrder) (to back : ℕ → ℕ) (h : IsRearranged log other to back) where
@@ -135,11 +150,6 @@ word_kept to (Some (Judged (verdict.Low p))) = refl
 word_kept to (Some (Judged verdict.Least)) = refl
 word_kept to (Some (Judged (verdict.Ahead p))) = refl
 
-leads_within : (s : Skeleton) (e : ℕ) (rest : List ℕ) (f : ℕ) → LeadsTo s e rest f → All (λ (k : ℕ). k < length s) rest
-leads_within s e [] f h = All-nil (λ (k : ℕ). k < length s)
-leads_within s e (m ∷ rest) f h =
-    All-cons (λ (k : ℕ). k < length s) m rest (direct_exists s e m h.0) (leads_within s m rest f h.1)
-
 chain_exists : (t : ClockEvents) (p : Pair) (f : ℕ) (list : List ℕ) → IsClockChain t p f list → All (λ (k : ℕ). k < length t) list
 chain_exists t p f [] h = absurd h
 chain_exists t p f (e ∷ rest) h =
@@ -184,6 +194,11 @@ module _ (t u : ClockEvents) (to back : ℕ → ℕ) (h : IsClockReordering t u 
         counts = (λ i. (floor i).c + ticks_kept rest within i) ∙ chain.counts;
         linked = leads_kept (clock_skeleton t) (clock_skeleton u) to back h.links e rest f chain.linked;
       }
+
+-- whether events at some locations are a chain for the least stamp of one
+abbrev explains : List FileMark → LogInOrder → Location → List Location → Bool
+explains files log event chain =
+    is_clock_explained_by (clocks_of log) log.least (position_or_end files log event) (map (position_or_end files log) chain)
 
 -- one log
 module _ (log other : LogInOrder) (ordered : IsInOrder log) (other_ordered : IsInOrder other) (clocks : other.receives ≡ log.receives)
@@ -273,6 +288,21 @@ module _ (log other : LogInOrder) (ordered : IsInOrder log) (other_ordered : IsI
   position_moved line None is = none_there line is
   position_moved line (Some k) is = (found_there line k is).1
 
+  -- the position of a location
+  at_moved : (files : List FileMark) (location : Location) → position_at files other location ≡ option_map there (position_at files log location)
+  at_moved files location = in_line (line_at files location)
+    where
+      in_line : (o : Option ℕ) → option_and_then (λ line. position_on other line) o ≡ option_map there (option_and_then (λ line. position_on log line) o)
+      in_line None = refl
+      in_line (Some line) = position_moved line (position_on log line) refl
+
+  at_exists : (files : List FileMark) (location : Location) (k : ℕ) → position_at files log location ≡ Some k → k < length s
+  at_exists files location k is = in_line (line_at files location) is
+    where
+      in_line : (o : Option ℕ) → option_and_then (λ line. position_on log line) o ≡ Some k → k < length s
+      in_line None is = let both : None ≡ Some k = is in absurd cc
+      in_line (Some line) is = (found_there line k is).0
+
   row_by : (line : ℕ) (row other_row : ℕ → Fields) → ((k : ℕ) → k < length s → other_row (there k) ≡ row k)
       → if_event (position_on other line) other_row ≡ if_event (position_on log line) row
   row_by line row other_row each = by_position (position_on log line) refl
@@ -292,15 +322,111 @@ module _ (log other : LogInOrder) (ordered : IsInOrder log) (other_ordered : IsI
       ∙ ap (λ (lines : List ℕ). word ∷ line_text files line ∷ decimal p.l ∷ decimal p.c ∷ map (line_text files) lines)
       (ap (map (line_in other)) moves ∙ lines_moved log other itself itself one events within)
 
-  chain_row : (files : List FileMark) (line k : ℕ) → k < length s → chain_fields files other line (there k) ≡ chain_fields files log line k
-  chain_row files line k lt =
-      way_moved files (codes "chain") line (pair_at log.least k) (pair_at other.least (there k)) (clock_chain_of (clocks_of log) log.least k)
-      (clock_chain_of (clocks_of other) other.least (there k))
-      (sym (equal_least k lt))
-      (clock_reordering_keeps_chains (clocks_of log) (clocks_of other) there (moved_position other log itself) clocks_move log.least other.least
-      (λ e shown. equal_least e (omega (arith, shown, skeleton_size (clocks_of log), length-clocks_of log))) k (read_so k lt))
-      (subst (λ (n : ℕ). All (λ (e : ℕ). e < n) (clock_chain_of (clocks_of log) log.least k)) (length-clocks_of log)
-      (chain_within (clocks_of log) log.least k (read_so k lt)))
+  -- answers whose events are in order
+  told_alike : (files : List FileMark) (word : List ℕ) (asked : Fields) (numbers events : List ℕ) (last : Option (List ℕ)) (row other_row : Fields)
+      → All (λ (k : ℕ). k < length s) events
+      → TellsAnswer files log word asked (record { numbers = numbers; events = events; is_set = false; word = last }) row
+      → TellsAnswer files other word asked (record { numbers = numbers; events = map there events; is_set = false; word = last }) other_row
+      → other_row ≡ row
+  told_alike files word asked numbers events last row other_row within (lines, are, is) (others, others_are, others_is) =
+      others_is ∙ ap (λ (ls : List ℕ). word ∷ (asked ++ map decimal numbers ++ map (line_text files) ls ++ last_field last))
+      (others_are ∙ lines_moved log other itself itself one events within ∙ sym are) ∙ sym is
+
+  asked_moved : (files : List FileMark) (events : List ℕ) → All (λ (k : ℕ). k < length s) events
+      → map (line_text files) (map (line_in other) (map there events)) ≡ map (line_text files) (map (line_in log) events)
+  asked_moved files events within = ap (map (line_text files)) (lines_moved log other itself itself one events within)
+
+  only : (k : ℕ) → k < length s → All (λ (e : ℕ). e < length s) (k ∷ [])
+  only k lt = All-cons (λ (e : ℕ). e < length s) k [] lt (All-nil (λ (e : ℕ). e < length s))
+
+  chain_alike : (files : List FileMark) (row other_row : Fields) (k : ℕ) → k < length s → AnswersAt files log (Some (about.Explain k)) row
+      → AnswersAt files other (Some (about.Explain (there k))) other_row → other_row ≡ row
+  chain_alike files row other_row k lt tells other_tells =
+      let chain = clock_chain_of (clocks_of log) log.least k in
+      let p = pair_at log.least k in
+      let pairs : pair_at other.least (there k) ≡ p = sym (equal_least k lt) in
+      let chains : clock_chain_of (clocks_of other) other.least (there k) ≡ map there chain =
+      clock_reordering_keeps_chains (clocks_of log) (clocks_of other) there (moved_position other log itself) clocks_move log.least other.least
+      (λ e shown. equal_least e (omega (arith, shown, skeleton_size (clocks_of log), length-clocks_of log))) k (read_so k lt) in
+      let found : found_in other (about.Explain (there k)) ≡ way_answer p (map there chain) = λ i. way_answer (pairs i) (chains i) in
+      let asked = map (line_text files) (map (line_in log) (k ∷ [])) in
+      let within =
+      subst (λ (n : ℕ). All (λ (e : ℕ). e < n) chain) (length-clocks_of log) (chain_within (clocks_of log) log.least k (read_so k lt)) in
+      told_alike files (codes "chain") asked (p.l ∷ p.c ∷ []) chain None row other_row within tells
+      (subst (λ (a : Answer). TellsAnswer files other (codes "chain") asked a other_row) found
+      (subst (λ (q : Fields). TellsAnswer files other (codes "chain") q (found_in other (about.Explain (there k))) other_row)
+      (asked_moved files (k ∷ []) (only k lt)) other_tells))
+
+  relation_alike : (files : List FileMark) (row other_row : Fields) (j k : ℕ) → j < length s → k < length s
+      → AnswersAt files log (Some (about.Relation j k)) row → AnswersAt files other (Some (about.Relation (there j) (there k))) other_row
+      → other_row ≡ row
+  relation_alike files row other_row j k j_lt k_lt tells other_tells =
+      let word = relation_word (relation_of s j k) in
+      let found : found_in other (about.Relation (there j) (there k)) ≡ word_answer word =
+      ap (λ (r : Relation). word_answer (relation_word r)) (same_relation s t there (moved_position other log itself) moves j k j_lt k_lt) in
+      let asked = map (line_text files) (map (line_in log) (j ∷ k ∷ [])) in
+      let within = All-cons (λ (e : ℕ). e < length s) j (k ∷ []) j_lt (only k k_lt) in
+      told_alike files (codes "relation") asked [] [] (Some word) row other_row (All-nil (λ (e : ℕ). e < length s)) tells
+      (subst (λ (a : Answer). TellsAnswer files other (codes "relation") asked a other_row) found
+      (subst (λ (q : Fields). TellsAnswer files other (codes "relation") q (found_in other (about.Relation (there j) (there k))) other_row)
+      (asked_moved files (j ∷ k ∷ []) within) other_tells))
+
+  path_told : (files : List FileMark) (asked : Fields) (found : Option (List ℕ)) (row other_row : Fields)
+      → All (λ (k : ℕ). k < length s) ((path_answer found).events) → TellsAnswer files log (codes "path") asked (path_answer found) row
+      → TellsAnswer files other (codes "path") asked (path_answer (option_map (map there) found)) other_row → other_row ≡ row
+  path_told files asked None row other_row within tells other_tells =
+      told_alike files (codes "path") asked [] [] (Some (codes "none")) row other_row (All-nil (λ (e : ℕ). e < length s)) tells other_tells
+  path_told files asked (Some path) row other_row within tells other_tells =
+      told_alike files (codes "path") asked [] path None row other_row within tells other_tells
+
+  path_alike : (files : List FileMark) (row other_row : Fields) (j k : ℕ) → j < length s → k < length s
+      → AnswersAt files log (Some (about.Why j k)) row → AnswersAt files other (Some (about.Why (there j) (there k))) other_row → other_row ≡ row
+  path_alike files row other_row j k j_lt k_lt tells other_tells =
+      let path = path_of s j k in
+      let found : found_in other (about.Why (there j) (there k)) ≡ path_answer (option_map (map there) path) =
+      ap (λ (o : Option (List ℕ)). path_answer o) (reordering_keeps_paths s t there (moved_position other log itself) moves j k j_lt k_lt) in
+      let asked = map (line_text files) (map (line_in log) (j ∷ k ∷ [])) in
+      let both = All-cons (λ (e : ℕ). e < length s) j (k ∷ []) j_lt (only k k_lt) in
+      let within = answer_within s (clocks_of log) log.least (about.Why j k) (length-clocks_of log) (among_within (length s) (j ∷ k ∷ []) both) in
+      path_told files asked path row other_row within tells
+      (subst (λ (a : Answer). TellsAnswer files other (codes "path") asked a other_row) found
+      (subst (λ (q : Fields). TellsAnswer files other (codes "path") q (found_in other (about.Why (there j) (there k))) other_row)
+      (asked_moved files (j ∷ k ∷ []) both) other_tells))
+
+  -- answers by a position, and by two
+  by_one : (files : List FileMark) (ask other_ask : ℕ → EventQuestion) (location : Location) (row other_row : Fields)
+      → ((k : ℕ) → k < length s → AnswersAt files log (Some (ask k)) row → AnswersAt files other (Some (other_ask (there k))) other_row → other_row ≡ row)
+      → (o : Option ℕ) → position_at files log location ≡ o → AnswersAt files log (option_map ask (position_at files log location)) row
+      → AnswersAt files other (option_map other_ask (position_at files other location)) other_row → other_row ≡ row
+  by_one files ask other_ask location row other_row each None is tells other_tells =
+      let none : position_at files other location ≡ None = at_moved files location ∙ ap (option_map there) is in
+      let here : row ≡ missing_row missing.Event = subst (λ (o : Option ℕ). AnswersAt files log (option_map ask o) row) is tells in
+      subst (λ (o : Option ℕ). AnswersAt files other (option_map other_ask o) other_row) none other_tells ∙ sym here
+  by_one files ask other_ask location row other_row each (Some k) is tells other_tells =
+      let found : position_at files other location ≡ Some (there k) = at_moved files location ∙ ap (option_map there) is in
+      each k (at_exists files location k is) (subst (λ (o : Option ℕ). AnswersAt files log (option_map ask o) row) is tells)
+      (subst (λ (o : Option ℕ). AnswersAt files other (option_map other_ask o) other_row) found other_tells)
+
+  by_two : (files : List FileMark) (ask : ℕ → ℕ → EventQuestion) (first second : Location) (row other_row : Fields)
+      → ((j k : ℕ) → j < length s → k < length s → AnswersAt files log (Some (ask j k)) row → AnswersAt files other (Some (ask (there j) (there k))) other_row
+      → other_row ≡ row)
+      → (o : Option ℕ) → position_at files log first ≡ o
+      → AnswersAt files log (option_and_then (λ j. option_map (ask j) (position_at files log second)) (position_at files log first)) row
+      → AnswersAt files other (option_and_then (λ j. option_map (ask j) (position_at files other second)) (position_at files other first)) other_row
+      → other_row ≡ row
+  by_two files ask first second row other_row each None is tells other_tells =
+      let none : position_at files other first ≡ None = at_moved files first ∙ ap (option_map there) is in
+      let here : row ≡ missing_row missing.Event =
+      subst (λ (o : Option ℕ). AnswersAt files log (option_and_then (λ j. option_map (ask j) (position_at files log second)) o) row) is tells in
+      subst (λ (o : Option ℕ). AnswersAt files other (option_and_then (λ j. option_map (ask j) (position_at files other second)) o) other_row)
+      none other_tells ∙ sym here
+  by_two files ask first second row other_row each (Some j) is tells other_tells =
+      let found : position_at files other first ≡ Some (there j) = at_moved files first ∙ ap (option_map there) is in
+      by_one files (ask j) (ask (there j)) second row other_row
+      (λ k k_lt. each j k (at_exists files first j is) k_lt) (position_at files log second) refl
+      (subst (λ (o : Option ℕ). AnswersAt files log (option_and_then (λ j. option_map (ask j) (position_at files log second)) o) row) is tells)
+      (subst (λ (o : Option ℕ). AnswersAt files other (option_and_then (λ j. option_map (ask j) (position_at files other second)) o) other_row)
+      found other_tells)
 
   claimed_row : (files : List FileMark) (line k : ℕ) → k < length s → claimed_fields files other line (there k) ≡ claimed_fields files log line k
   claimed_row files line k lt =
@@ -312,12 +438,6 @@ module _ (log other : LogInOrder) (ordered : IsInOrder log) (other_ordered : IsI
   pub claimed_alike : (files : List FileMark) (line : ℕ)
       → if_event (position_on other line) (claimed_fields files other line) ≡ if_event (position_on log line) (claimed_fields files log line)
   claimed_alike files line = row_by line (claimed_fields files log line) (claimed_fields files other line) (claimed_row files line)
-
-  relation_row : (files : List FileMark) (first second j k : ℕ) → j < length s → k < length s
-      → relation_fields files other first second (there j) (there k) ≡ relation_fields files log first second j k
-  relation_row files first second j k j_lt k_lt =
-      ap (λ (r : Relation). codes "relation" ∷ line_text files first ∷ line_text files second ∷ relation_word r ∷ [])
-      (same_relation s t there (moved_position other log itself) moves j k j_lt k_lt)
 
   drift_row_same : (files : List FileMark) (name : List ℕ) (o : Option ℕ) → drift_row files other name o ≡ drift_row files log name o
   drift_row_same files name None = refl
@@ -353,17 +473,16 @@ module _ (log other : LogInOrder) (ordered : IsInOrder log) (other_ordered : IsI
       let at' : IsOnLine log.events (line_in log k) (place k) = record { exists = place_exists log.events log.order ordered.causal k k_in; on_line = refl } in
       same_position log.events log.order ordered.causal j k j_in k_in (one_on_line log.events rise (line_in log k) (place j) (place k) at at')
 
-  rising : (k : ℕ) (lines : List ℕ) → AreRisingLinesOf log (influenced_by s k) lines → IsStrictlyIncreasing lines
-  rising k lines are =
-      let events = influenced_by s k in
-      let within = influenced_within s k in
+  rising : (events lines : List ℕ) → All (λ (k : ℕ). k < length s) events → IsStrictlyIncreasing events → AreRisingLinesOf log events lines
+      → IsStrictlyIncreasing lines
+  rising events lines within increase are =
       let size = length-map events (line_in log) in
       let distinct : IsDistinct eqb (map (line_in log) events) =
       IsDistinct-from_apart eqb (map (line_in log) events) (λ i j d lt exists.
       ne_eqb (get_or (map (line_in log) events) i d) (get_or (map (line_in log) events) j d) (λ lines_same.
       let j_lt : j < length events = omega arith in
       let i_lt : i < length events = omega arith in
-      let lower : get_or events i 0 < get_or events j 0 = AllPairs-from_increasing events (influenced_are_found s k).1 i j 0 lt j_lt in
+      let lower : get_or events i 0 < get_or events j 0 = AllPairs-from_increasing events increase i j 0 lt j_lt in
       let both : get_or events i 0 ≡ get_or events j 0 =
       one_line (get_or events i 0) (get_or events j 0) (within i 0 i_lt) (within j 0 j_lt)
       (sym (get_or-map (line_in log) events i 0 d i_lt) ∙ lines_same ∙ get_or-map (line_in log) events j 0 d j_lt) in
@@ -374,48 +493,48 @@ module _ (log other : LogInOrder) (ordered : IsInOrder log) (other_ordered : IsI
       flipped : (x y : ℕ) → eqb x y ≡ eqb y x
       flipped x y = same_tests (eqb y x) (eqb x y) (λ is. eq-eqb x y (sym (eqb-true y x is))) (λ is. eq-eqb y x (sym (eqb-true x y is)))
 
-  lines_there : (k : ℕ) → k < length s → (lines others : List ℕ) → AreRisingLinesOf log (influenced_by s k) lines
-      → AreRisingLinesOf other (influenced_by t (there k)) others → (f : ℕ) → Contains lines f → Contains others f
-  lines_there k lt lines others are others_are f has =
-      let events = influenced_by s k in
+  lines_there : (events others lines other_lines : List ℕ) → All (λ (k : ℕ). k < length s) events
+      → ((e : ℕ) → Contains events e → Contains others (there e)) → AreRisingLinesOf log events lines → AreRisingLinesOf other others other_lines
+      → (f : ℕ) → Contains lines f → Contains other_lines f
+  lines_there events others lines other_lines within kept are others_are f has =
       let from = contains_mapped (line_in log) events f
       (Contains-permutation lines (map (line_in log) events) f (IsPermutation-sym (map (line_in log) events) lines are.of_events) has) in
       let e = from.0 in
-      let e_lt : e < length s = contained_within (length s) events e (influenced_within s k) from.1 in
-      let before : HappenedBefore s k e = ((influenced_are_found s k).0 e).0 from.1 in
-      let after : HappenedBefore t (there k) (there e) =
-      (reordering_keeps_happened_before s t there (moved_position other log itself) moves k e lt e_lt).0 before in
-      let among = mapped_contains (line_in other) (influenced_by t (there k)) (there e) (((influenced_are_found t (there k)).0 (there e)).1 after) in
+      let e_lt : e < length s = contained_within (length s) events e within from.1 in
+      let among = mapped_contains (line_in other) others (there e) (kept e from.1) in
       let size = length-skeleton_of log ordered in
       let is : line_in other (there e) ≡ f = line_moved log other itself itself one e (omega arith) ∙ from.2 in
-      subst (Contains others) is
-      (Contains-permutation (map (line_in other) (influenced_by t (there k))) others (line_in other (there e)) others_are.of_events among)
+      subst (Contains other_lines) is
+      (Contains-permutation (map (line_in other) others) other_lines (line_in other (there e)) others_are.of_events among)
 
   -- chains that are checked
-  or_end_moved : (line : ℕ) → position_or_end log line < length s → position_or_end other line ≡ there (position_or_end log line)
-  or_end_moved line lt = by_position (position_on log line) refl lt
+  or_end_moved : (files : List FileMark) (location : Location) → position_or_end files log location < length s
+      → position_or_end files other location ≡ there (position_or_end files log location)
+  or_end_moved files location lt = by_position (position_at files log location) refl lt
     where
-      by_position : (o : Option ℕ) → position_on log line ≡ o → unwrap_or (position_on log line) (length log.events) < length s
-          → unwrap_or (position_on other line) (length other.events) ≡ there (unwrap_or (position_on log line) (length log.events))
+      by_position : (o : Option ℕ) → position_at files log location ≡ o → unwrap_or (position_at files log location) (length log.events) < length s
+          → unwrap_or (position_at files other location) (length other.events) ≡ there (unwrap_or (position_at files log location) (length log.events))
       by_position None is lt =
           let size = length-skeleton_of log ordered in
-          let end : unwrap_or (position_on log line) (length log.events) ≡ length log.events = ap (λ (o : Option ℕ). unwrap_or o (length log.events)) is in
+          let end : unwrap_or (position_at files log location) (length log.events) ≡ length log.events =
+          ap (λ (o : Option ℕ). unwrap_or o (length log.events)) is in
           absurd (omega arith)
       by_position (Some k) is lt =
-          ap (λ (o : Option ℕ). unwrap_or o (length other.events)) (found_there line k is).1
+          ap (λ (o : Option ℕ). unwrap_or o (length other.events)) (at_moved files location ∙ ap (option_map there) is)
           ∙ ap there (sym (ap (λ (o : Option ℕ). unwrap_or o (length log.events)) is))
 
-  all_moved : (lines : List ℕ) → All (λ (k : ℕ). k < length s) (map (position_or_end log) lines)
-      → map (position_or_end other) lines ≡ map there (map (position_or_end log) lines)
-  all_moved [] within = refl
-  all_moved (line ∷ lines) within =
-      ap (λ (k : ℕ). k ∷ map (position_or_end other) lines) (or_end_moved line (within 0 0 (omega arith)))
-      ∙ ap (λ (ks : List ℕ). there (position_or_end log line) ∷ ks) (all_moved lines (λ i d lt. within (suc i) d (omega arith)))
+  all_moved : (files : List FileMark) (locations : List Location) → All (λ (k : ℕ). k < length s) (map (position_or_end files log) locations)
+      → map (position_or_end files other) locations ≡ map there (map (position_or_end files log) locations)
+  all_moved files [] within = refl
+  all_moved files (location ∷ locations) within =
+      ap (λ (k : ℕ). k ∷ map (position_or_end files other) locations) (or_end_moved files location (within 0 0 (omega arith)))
+      ∙ ap (λ (ks : List ℕ). there (position_or_end files log location) ∷ ks) (all_moved files locations (λ i d lt. within (suc i) d (omega arith)))
 
-  explained_there : (line : ℕ) (chain : List ℕ) → explains log line chain ≡ true → explains other line chain ≡ true
-  explained_there line chain test =
-      let e = position_or_end log line in
-      let list = map (position_or_end log) chain in
+  explained_there : (files : List FileMark) (event : Location) (chain : List Location) → explains files log event chain ≡ true
+      → explains files other event chain ≡ true
+  explained_there files event chain test =
+      let e = position_or_end files log event in
+      let list = map (position_or_end files log) chain in
       let is = (clock_explained_is_tested (clocks_of log) log.least e list).0 test in
       let exists : e < length s = omega (arith, is.exists, length-clocks_of log) in
       let within =
@@ -425,8 +544,8 @@ module _ (log other : LogInOrder) (ordered : IsInOrder log) (other_ordered : IsI
       subst (λ (p : Pair). IsClockChain (clocks_of other) p (there e) (map there list)) (equal_least e exists) kept in
       let tested = (clock_explained_is_tested (clocks_of other) other.least (there e) (map there list)).1
       (record { exists = omega (arith, moves.there.exists e exists, length-clocks_of other); chain = chain_there }) in
-      ap (λ (x : ℕ). is_clock_explained_by (clocks_of other) other.least x (map (position_or_end other) chain)) (or_end_moved line exists)
-      ∙ ap (λ (xs : List ℕ). is_clock_explained_by (clocks_of other) other.least (there e) xs) (all_moved chain within) ∙ tested
+      ap (λ (x : ℕ). is_clock_explained_by (clocks_of other) other.least x (map (position_or_end files other) chain)) (or_end_moved files event exists)
+      ∙ ap (λ (xs : List ℕ). is_clock_explained_by (clocks_of other) other.least (there e) xs) (all_moved files chain within) ∙ tested
 
 -- answers by a line
 by_line : (o : Option ℕ) (row other_row : ℕ → Fields) → ((line : ℕ) → other_row line ≡ row line) → if_event o other_row ≡ if_event o row
@@ -459,64 +578,132 @@ module _ (files : List FileMark) (nodes : List (List ℕ)) (labels : List (ℕ �
       each k found.0 (subst (λ (o : Option ℕ). IfEvent o Tells row) is tells)
       (subst (λ (o : Option ℕ). IfEvent o OtherTells other_row) found.1 other_tells)
 
-  influenced_row : (line k : ℕ) (row other_row : Fields) → k < length (skeleton_of log) → TellsInfluenced files log line k row
-      → TellsInfluenced files other line (to_other k) other_row → other_row ≡ row
-  influenced_row line k row other_row lt (lines, are, is) (others, others_are, others_is) =
-      let size = same_size log other (λ e. e) (λ e. e) (one_log log other clocks ordered other_ordered same) in
+  -- answers whose events are a set
+  module _ (word : List ℕ) (k : ℕ) (lt : k < length (skeleton_of log)) (events others : List ℕ) (within : All (λ (e : ℕ). e < length (skeleton_of log)) events)
+      (other_within : All (λ (e : ℕ). e < length (skeleton_of other)) others) (rise_here : IsStrictlyIncreasing events) (rise_there : IsStrictlyIncreasing others)
+      (kept : (e : ℕ) → Contains events e → Contains others (to_other e))
+      (returned : (e : ℕ) → Contains others e → Contains events (moved_position other log (λ d. d) e)) where
+    set_alike : (row other_row : Fields) → TellsAnswer files log word (map (line_text files) (map (line_in log) (k ∷ []))) (set_answer events) row
+        → TellsAnswer files other word (map (line_text files) (map (line_in other) (to_other k ∷ []))) (set_answer others) other_row → other_row ≡ row
+    set_alike row other_row (lines, are, is) (other_lines, others_are, others_is) =
+        let back_rise : LinesRise other.events = other_rise log other ordered other_ordered clocks same rise in
+        let equal : other_lines ≡ lines =
+        rising_is_unique other_lines lines
+        (rising other log other_ordered ordered (sym clocks) (sym same) back_rise others other_lines other_within rise_there others_are)
+        (rising log other ordered other_ordered clocks same rise events lines within rise_here are)
+        (λ f. (
+          lines_there other log other_ordered ordered (sym clocks) (sym same) back_rise others events other_lines lines other_within returned others_are are f,
+          lines_there log other ordered other_ordered clocks same rise events others lines other_lines within kept are others_are f,
+        )) in
+        let asked = asked_moved log other ordered other_ordered clocks same rise files (k ∷ []) (only log other ordered other_ordered clocks same rise k lt) in
+        others_is ∙ (λ i. answer_row word (asked i) (map (line_text files) (equal i)) (set_answer [])) ∙ sym is
+
+  influenced_alike : (row other_row : Fields) (k : ℕ) → k < length (skeleton_of log) → AnswersAt files log (Some (about.Influenced k)) row
+      → AnswersAt files other (Some (about.Influenced (to_other k))) other_row → other_row ≡ row
+  influenced_alike row other_row k lt tells other_tells =
+      let s = skeleton_of log in
+      let t = skeleton_of other in
+      let back = moved_position other log (λ d. d) in
       let moved_so = moves log other ordered other_ordered clocks same rise in
       let far = moved_so.there.exists k lt in
-      let back_rise : LinesRise other.events = other_rise log other ordered other_ordered clocks same rise in
-      let are_back : AreRisingLinesOf log (influenced_by (skeleton_of log) (moved_position other log (λ e. e) (to_other k))) lines =
-      subst (λ (x : ℕ). AreRisingLinesOf log (influenced_by (skeleton_of log) x) lines) (sym (moved_so.back_here k lt)) are in
-      let equal : others ≡ lines =
-      rising_is_unique others lines
-      (rising other log other_ordered ordered (sym clocks) (sym same) back_rise (to_other k) others others_are)
-      (rising log other ordered other_ordered clocks same rise k lines are)
-      (λ f. (
-        lines_there other log other_ordered ordered (sym clocks) (sym same) back_rise (to_other k) far others lines others_are are_back f,
-        lines_there log other ordered other_ordered clocks same rise k lt lines others are others_are f,
-      )) in
-      others_is ∙ ap (λ (ls : List ℕ). codes "influenced" ∷ map (line_text files) (line ∷ ls)) equal ∙ sym is
+      set_alike (codes "influenced") k lt (influenced_by s k) (influenced_by t (to_other k)) (influenced_within s k) (influenced_within t (to_other k))
+      (influenced_are_found s k).1 (influenced_are_found t (to_other k)).1
+      (λ e has.
+      let e_lt : e < length s = contained_within (length s) (influenced_by s k) e (influenced_within s k) has in
+      ((influenced_are_found t (to_other k)).0 (to_other e)).1
+      ((reordering_keeps_happened_before s t to_other back moved_so k e lt e_lt).0 (((influenced_are_found s k).0 e).0 has)))
+      (λ e has.
+      let e_lt : e < length t = contained_within (length t) (influenced_by t (to_other k)) e (influenced_within t (to_other k)) has in
+      let before : HappenedBefore t (to_other k) e = ((influenced_are_found t (to_other k)).0 e).0 has in
+      ((influenced_are_found s k).0 (back e)).1
+      (subst (λ (x : ℕ). HappenedBefore s x (back e)) (moved_so.back_here k lt)
+      ((reordering_keeps_happened_before t s back to_other (turned s t to_other back moved_so) (to_other k) e far e_lt).0 before)))
+      row other_row tells other_tells
+
+  tainted_alike : (row other_row : Fields) (k : ℕ) → k < length (skeleton_of log) → AnswersAt files log (Some (about.Tainted k)) row
+      → AnswersAt files other (Some (about.Tainted (to_other k))) other_row → other_row ≡ row
+  tainted_alike row other_row k lt tells other_tells =
+      let clocks_here = clocks_of log in
+      let clocks_there = clocks_of other in
+      let back = moved_position other log (λ d. d) in
+      let moved_so = clocks_move log other ordered other_ordered clocks same rise in
+      let size = length-clocks_of log in
+      let other_size = length-clocks_of other in
+      let links = moves log other ordered other_ordered clocks same rise in
+      let raised = is_raised clocks_here log.least k in
+      let raised_there = is_raised clocks_there other.least (to_other k) in
+      let alike : (e : ℕ) → e < length clocks_here → raised_there (to_other e) ≡ raised e = λ e e_lt.
+      reordering_keeps_taints clocks_here clocks_there log.least other.least to_other back moved_so
+      (λ d shown. equal_least log other ordered other_ordered clocks same rise d (omega (arith, shown, skeleton_size clocks_here, size))) k e
+      (omega (arith, lt, size)) e_lt in
+      set_alike (codes "tainted") k lt (tainted_by clocks_here log.least k) (tainted_by clocks_there other.least (to_other k))
+      (subst (λ (n : ℕ). All (λ (e : ℕ). e < n) (tainted_by clocks_here log.least k)) size (tainted_within clocks_here log.least k))
+      (subst (λ (n : ℕ). All (λ (e : ℕ). e < n) (tainted_by clocks_there other.least (to_other k))) other_size (tainted_within clocks_there other.least (to_other k)))
+      (passing_places_rise raised (length clocks_here)) (passing_places_rise raised_there (length clocks_there))
+      (λ e has.
+      let passes = passing_from_contains raised (length clocks_here) e has in
+      let far = links.there.exists e (omega (arith, passes.0, size)) in
+      contains_passing raised_there (length clocks_there) (to_other e) (omega (arith, far, other_size)) (alike e passes.0 ∙ passes.1))
+      (λ e has.
+      let passes = passing_from_contains raised_there (length clocks_there) e has in
+      let shown : e < length (skeleton_of other) = omega (arith, passes.0, other_size) in
+      let near = links.here.exists e shown in
+      let near_clock : back e < length clocks_here = omega (arith, near, size) in
+      contains_passing raised (length clocks_here) (back e) near_clock
+      (sym (alike (back e) near_clock) ∙ ap raised_there (links.back_there e shown) ∙ passes.1))
+      row other_row tells other_tells
+
+  -- the first event of a node that breaks a rule
+  first_alike : (name : List ℕ) (rule : CauseWord) (node : Option ℕ) (row other_row : Fields) → AnswersFirst files log full name rule node row
+      → AnswersFirst files other full name rule node other_row → other_row ≡ row
+  first_alike name rule None row other_row is other_is = other_is ∙ sym is
+  first_alike name rule (Some node) row other_row (found, names, is) (other_found, other_names, other_is) =
+      let told_so = told log other ordered other_ordered clocks same rise in
+      let same_so = same_node log other (λ e. e) (λ e. e) (one_log log other clocks ordered other_ordered same) node in
+      let kept = first_moved log other (λ e. e) (λ e. e) told_so full rule node node same_so found names in
+      let moves_so : other_found ≡ option_map to_other found = one_first other full rule node other_found (option_map to_other found) other_names kept in
+      other_is
+      ∙ ap (λ (o : Option ℕ). codes "first" ∷ name ∷ cause_text rule ∷ line_or_none files other o ∷ []) moves_so
+      ∙ ap (λ (line : List ℕ). codes "first" ∷ name ∷ cause_text rule ∷ line ∷ []) (line_kept found names) ∙ sym is
+    where
+      line_kept : (found : Option ℕ) → NamesFirstToBreak log full rule node found → line_or_none files other (option_map to_other found) ≡ line_or_none files log found
+      line_kept None none = refl
+      line_kept (Some k) names =
+          let size = length-skeleton_of log ordered in
+          ap (line_text files) (line_moved log other (λ e. e) (λ e. e) (one_log log other clocks ordered other_ordered same) k (omega (arith, names.event.exists, size)))
 
   known_row : (line k : ℕ) (row other_row : Fields) → k < length (skeleton_of log) → TellsEvent files nodes labels log full line k row
       → TellsEvent files nodes labels other full line (to_other k) other_row → other_row ≡ row
   known_row line k row other_row lt (found, names, is) (other_found, other_names, other_is) =
       other_is ∙ event_row log other ordered other_ordered clocks same rise files nodes labels full line k lt found other_found names other_names ∙ sym is
 
-  same_check : (line : ℕ) (chain : List ℕ) → explains other line chain ≡ explains log line chain
-  same_check line chain =
-      same_tests (explains log line chain) (explains other line chain)
-      (explained_there log other ordered other_ordered clocks same rise line chain)
-      (explained_there other log other_ordered ordered (sym clocks) (sym same) (other_rise log other ordered other_ordered clocks same rise) line chain)
+  same_check : (event : Location) (chain : List Location) → explains files other event chain ≡ explains files log event chain
+  same_check event chain =
+      same_tests (explains files log event chain) (explains files other event chain)
+      (explained_there log other ordered other_ordered clocks same rise files event chain)
+      (explained_there other log other_ordered ordered (sym clocks) (sym same) (other_rise log other ordered other_ordered clocks same rise) files event chain)
+
+  check_alike : (event : Location) (chain : List Location) (row other_row : Fields) → AnswersCheck files log event chain row
+      → AnswersCheck files other event chain other_row → other_row ≡ row
+  check_alike event chain row other_row tells other_tells =
+      let word = yes_or_no (explains files log event chain) in
+      let asked = location_text event ∷ [] in
+      told_alike log other ordered other_ordered clocks same rise files (codes "check") asked [] [] (Some word) row other_row
+      (All-nil (λ (e : ℕ). e < length (skeleton_of log))) tells
+      (subst (λ (b : Bool). TellsAnswer files other (codes "check") asked (word_answer (yes_or_no b)) other_row) (same_check event chain) other_tells)
 
   pub one_answer : (question : Asked) (row other_row : Fields) → IsAnswer files nodes labels log full question row
       → IsAnswer files nodes labels other full question other_row → other_row ≡ row
   one_answer (Explain event) row other_row is other_is =
-      other_is ∙ by_line (line_at files event) (λ line. if_event (position_on log line) (chain_fields files log line))
-      (λ line. if_event (position_on other line) (chain_fields files other line))
-      (λ line. row_by log other ordered other_ordered clocks same rise line (chain_fields files log line) (chain_fields files other line)
-      (chain_row log other ordered other_ordered clocks same rise files line)) ∙ sym is
-  one_answer (Check event chain) row other_row is other_is =
-      other_is ∙ ap (λ (b : Bool). codes "check" ∷ location_text event ∷ yes_or_no b ∷ []) (same_check (line_or_none files event) (map (line_or_none files) chain))
-      ∙ sym is
+      by_one log other ordered other_ordered clocks same rise files (λ k. about.Explain k) (λ k. about.Explain k) event row other_row
+      (chain_alike log other ordered other_ordered clocks same rise files row other_row) (position_at files log event) refl is other_is
+  one_answer (Check event chain) row other_row is other_is = check_alike event chain row other_row is other_is
   one_answer (RelationAsked first second) row other_row is other_is =
-      let here : ℕ → ℕ → Fields = λ one two.
-      if_event (position_on log one) (λ j. if_event (position_on log two) (relation_fields files log one two j)) in
-      let there : ℕ → ℕ → Fields = λ one two.
-      if_event (position_on other one) (λ j. if_event (position_on other two) (relation_fields files other one two j)) in
-      other_is ∙ by_line (line_at files first) (λ one. if_event (line_at files second) (here one)) (λ one. if_event (line_at files second) (there one))
-      (λ one. by_line (line_at files second) (here one) (there one) (λ two.
-      row_by log other ordered other_ordered clocks same rise one
-      (λ j. if_event (position_on log two) (relation_fields files log one two j))
-      (λ j. if_event (position_on other two) (relation_fields files other one two j))
-      (λ j j_lt. row_by log other ordered other_ordered clocks same rise two (relation_fields files log one two j)
-      (relation_fields files other one two (to_other j)) (λ k k_lt. relation_row log other ordered other_ordered clocks same rise files one two j k j_lt k_lt))))
-      ∙ sym is
+      by_two log other ordered other_ordered clocks same rise files (λ j k. about.Relation j k) first second row other_row
+      (relation_alike log other ordered other_ordered clocks same rise files row other_row) (position_at files log first) refl is other_is
   one_answer (Influenced event) row other_row is other_is =
-      told_by_line (line_at files event) (λ line. IfEvent (position_on log line) (TellsInfluenced files log line))
-      (λ line. IfEvent (position_on other line) (TellsInfluenced files other line)) row other_row
-      (λ line here there. by_event line (TellsInfluenced files log line) (TellsInfluenced files other line) row other_row
-      (λ k lt tells other_tells. influenced_row line k row other_row lt tells other_tells) (position_on log line) refl here there) is other_is
+      by_one log other ordered other_ordered clocks same rise files (λ k. about.Influenced k) (λ k. about.Influenced k) event row other_row
+      (influenced_alike row other_row) (position_at files log event) refl is other_is
   one_answer (DriftAsked name) row other_row is other_is =
       other_is ∙ drift_row_same log other ordered other_ordered clocks same rise files name (position (bytes_eq name) nodes) ∙ sym is
   one_answer (Claimed event) row other_row is other_is =
@@ -528,6 +715,14 @@ module _ (files : List FileMark) (nodes : List (List ℕ)) (labels : List (ℕ �
       (λ line. IfEvent (position_on other line) (TellsEvent files nodes labels other full line)) row other_row
       (λ line here there. by_event line (TellsEvent files nodes labels log full line) (TellsEvent files nodes labels other full line) row other_row
       (λ k lt tells other_tells. known_row line k row other_row lt tells other_tells) (position_on log line) refl here there) is other_is
+  one_answer (Why first second) row other_row is other_is =
+      by_two log other ordered other_ordered clocks same rise files (λ j k. about.Why j k) first second row other_row
+      (path_alike log other ordered other_ordered clocks same rise files row other_row) (position_at files log first) refl is other_is
+  one_answer (Tainted event) row other_row is other_is =
+      by_one log other ordered other_ordered clocks same rise files (λ k. about.Tainted k) (λ k. about.Tainted k) event row other_row
+      (tainted_alike row other_row) (position_at files log event) refl is other_is
+  one_answer (First name rule) row other_row is other_is =
+      first_alike name rule (position (bytes_eq name) nodes) row other_row is other_is
 
 pub answers_agree : AnswersAgree
 answers_agree files nodes labels log other full question row other_row ordered other_ordered clocks same rise is other_is =

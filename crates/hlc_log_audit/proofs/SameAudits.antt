@@ -139,7 +139,7 @@ module _ (text : LogText) (rules : AuditRules) (asked : List LogQuestion)
   events = opened_events rules.records text.messages text.log.events
 
   abbrev IsBad : List ℕ → Type 0
-  IsBad bytes = IsDisorderShown rules.records.faults text.files text.message_names events (Some before) (Some bytes)
+  IsBad bytes = IsDisorderShown rules.records.faults text.details.files text.message_names events (Some before) (Some bytes)
 
   abbrev Leaves : List ℕ → Outcome → Type 0
   Leaves bytes result = IsTold text rules asked (Some before) (Some bytes) result
@@ -183,7 +183,7 @@ module _ (text : LogText) (rules : AuditRules) (asked : List LogQuestion)
   bad_bytes (bad, none, shown) (other, other_none, other_shown) =
       let same : other_none.fault ≡ none.fault =
       one_fault events other_none.fault none.fault other_none.known none.known other_none.is_fault none.is_fault in
-      other_shown ∙ ap (λ (row : List ℕ). before ++ row) (one_text rules.records.faults text.files text.message_names events bad other none other_none same) ∙ sym shown
+      other_shown ∙ ap (λ (row : List ℕ). before ++ row) (one_text rules.records.faults text.details.files text.message_names events bad other none other_none same) ∙ sym shown
 
   told_same : (result other_result : Outcome) → Leaves after result → Leaves others other_result → (other_result ≡ result) × (others ≡ after)
   told_same result other_result told other_told =

@@ -35,12 +35,12 @@ pub opened_alike : (rules : LogRules) (text : LogText) (one other : OpenedLog) (
 opened_alike rules text one other is other_is kept lines =
     let files : other.files ≡ one.files = other_is.files ∙ sym is.files in
     let nodes : other.nodes ≡ one.nodes = other_is.nodes ∙ sym is.nodes in
-    let labels : other.labels ≡ one.labels = other_is.labels ∙ ap (λ (k : Option (List ℕ)). labels_kept k text.labels) kept ∙ sym is.labels in
+    let labels : other.labels ≡ one.labels = other_is.labels ∙ ap (λ (k : Option (List ℕ)). labels_kept k text.details.labels) kept ∙ sym is.labels in
     let questions : other.questions ≡ one.questions = other_is.questions ∙ sym is.questions in
     let unsent : other.unsent ≡ one.unsent = other_is.ordered.taken ∙ sym is.ordered.taken in
     let resent : other.resent ≡ one.resent = other_is.ordered.again ∙ sym is.ordered.again in
     let skipped : other.skipped ≡ one.skipped = other_is.skipped ∙ sym is.skipped in
-    let left_out : other.left_out ≡ one.left_out = other_is.left_out ∙ ap (λ (more : List BadLine). text.left_out.items ++ more) lines ∙ sym is.left_out in
+    let left_out : other.left_out ≡ one.left_out = other_is.left_out ∙ ap (λ (more : List BadLine). text.details.left_out ++ more) lines ∙ sym is.left_out in
     let full : other.full ≡ one.full = other_is.full ∙ sym is.full in
     λ i. record {
       log = other.log;

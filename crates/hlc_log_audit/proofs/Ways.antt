@@ -8,42 +8,13 @@ use Rattle.hlc_stamp.specs.declared.id.EventId.{EventId}
 use Rattle.hlc_stamp.specs.Order.{Pair}
 use Rattle.hlc_causality.specs.Assignment.{pair_at}
 use Rattle.hlc_causality.specs.Causality.{IsPrevious, IsSendOf, Skeleton}
-use Rattle.hlc_causality.specs.ClockChain.{IsClockForcing}
-use Rattle.hlc_causality.specs.ClockEvents.{ClockEvents}
-use Rattle.hlc_causality.specs.FollowedClockChains.{clock_chain_of, clock_followed_back, clock_forcing_of}
 use Rattle.hlc_causality.specs.Neighbours.{NamesSend, place_of}
 use Rattle.hlc_causality.specs.Predecessors.{previous_of, send_of}
-use Rattle.hlc_causality.proofs.ClockForcing.{clock_forcing_is_earlier}
-use Rattle.hlc_causality.proofs.FollowedClockChains.{clock_forcing_found}
 use Rattle.hlc_causality.proofs.Predecessors.{direct_earlier, previous_is_unique, send_is_unique}
 use Rattle.hlc_causality.proofs.PredecessorsFound.{Finds, previous_found, send_found}
+use Rattle.hlc_answers.proofs.Found.{only_within, within_joined}
 use Rattle.hlc_causes.proofs.Disorder.{found_is}
 use Rattle.hlc_log_audit.specs.ClaimedWay.{BringsAlong, BringsGreatestC, BringsL, IsWayOfL, claimed_way, greater_c, if_same_l, source_of, way_back}
-
--- a walk back by a step is within n if each step leads to an earlier event
-module _ (n : ℕ) where
-  only_within : (f : ℕ) → f < n → All (λ (k : ℕ). k < n) (f ∷ [])
-  only_within f lt = All-cons (λ (k : ℕ). k < n) f [] lt (All-nil (λ (k : ℕ). k < n))
-
-  within_joined : (before : ℕ → List ℕ) (o : Option ℕ) (f : ℕ) → f < n → ((d : ℕ) → o ≡ Some d → All (λ (k : ℕ). k < n) (before d))
-      → All (λ (k : ℕ). k < n) (unwrap_or (option_map (λ d. before d) o) [] ++ f ∷ [])
-  within_joined before None f lt earlier = only_within f lt
-  within_joined before (Some d) f lt earlier = All-append (λ (k : ℕ). k < n) (before d) (f ∷ []) (earlier d refl) (only_within f lt)
-
--- so a chain has events
-module _ (t : ClockEvents) (pairs : List Pair) where
-  forcing_earlier : (f : ℕ) → f < length t → (d : ℕ) → clock_forcing_of t pairs f ≡ Some d → d < f
-  forcing_earlier f exists d is =
-      clock_forcing_is_earlier t pairs d f (subst (Finds (λ d. IsClockForcing t pairs d f)) is (clock_forcing_found t pairs f exists))
-
-  followed_within : (n f : ℕ) → f < length t → All (λ (k : ℕ). k < length t) (clock_followed_back t pairs n f)
-  followed_within zero f exists = only_within (length t) f exists
-  followed_within (suc n) f exists =
-      within_joined (length t) (clock_followed_back t pairs n) (clock_forcing_of t pairs f) f exists
-      (λ d is. let earlier = forcing_earlier f exists d is in followed_within n d (omega arith))
-
-  pub chain_within : (f : ℕ) → f < length t → All (λ (k : ℕ). k < length t) (clock_chain_of t pairs f)
-  chain_within f exists = followed_within f f exists
 
 module _ (s : Skeleton) (claimed : List Pair) where
   abbrev l_at : ℕ → ℕ

@@ -163,7 +163,7 @@ pub record IsTold (text : LogText) (rules : AuditRules) (asked : List LogQuestio
 -- what the audit of a log that was read left, with this outcome: the rows that say why it has no order, or what is told of it
 abbrev pub IsTextAudited : LogText → AuditRules → List LogQuestion → (before after : Option (List ℕ)) → Outcome → Type 0
 IsTextAudited text rules asked before after outcome.BadLog =
-    IsDisorderShown rules.records.faults text.files text.message_names (opened_events rules.records text.messages text.log.events) before after
+    IsDisorderShown rules.records.faults text.details.files text.message_names (opened_events rules.records text.messages text.log.events) before after
 IsTextAudited text rules asked before after outcome.Sound = IsTold text rules asked before after outcome.Sound
 IsTextAudited text rules asked before after outcome.OverLimit = IsTold text rules asked before after outcome.OverLimit
 IsTextAudited text rules asked before after (outcome.Broken over) = IsTold text rules asked before after (outcome.Broken over)

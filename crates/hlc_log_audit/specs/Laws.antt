@@ -4,8 +4,10 @@ use Rattle.std.specs.List.Sorted.{IsPermutation}
 use Rattle.std.specs.Prelude.{◌≡◌, Bool, ℕ, ◌<◌, List, ◌∷◌, ◌++◌, Some, codes, length, map, option_map, true}
 use Rattle.hlc_stamp.specs.Order.{Pair}
 use Rattle.hlc_causality.specs.Causality.{Skeleton}
-use Rattle.hlc_causality.specs.ClockEvents.{ClockEvents}
+use Rattle.hlc_causality.specs.ClockEvents.{ClockEvents, clock_skeleton}
 use Rattle.hlc_explain.specs.ClockFindings.{clock_node_drift}
+use Rattle.hlc_explain.specs.Paths.{path_of}
+use Rattle.hlc_explain.specs.Taints.{is_raised}
 use Rattle.hlc_csv.specs.Rows.{Fields}
 use Rattle.hlc_log.specs.Reordering.{HaveEqualPairs, IsClockReordering, IsReordering, IsSameNode}
 use Rattle.hlc_log_text.specs.Question.{Asked}
@@ -37,6 +39,17 @@ abbrev pub WaysAgree : Type 0
 WaysAgree = (log other : LogInOrder) (to back : ℕ → ℕ) → TellTheSame log other to back → (k : ℕ) → k < length log.order →
     let moved = moved_position log other to in
     claimed_way (skeleton_of other) (claimed_of other) (moved k) ≡ map moved (claimed_way (skeleton_of log) (claimed_of log) k)
+
+-- the shortest path that is found from one event to another is the same in each order
+abbrev pub ReorderingKeepsPaths : Type 0
+ReorderingKeepsPaths = (s t : Skeleton) (to back : ℕ → ℕ) → IsReordering s t to back → (e f : ℕ) → e < length s → f < length s →
+    path_of t (to e) (to f) ≡ option_map (map to) (path_of s e f)
+
+-- and so is whether the floor of an event raised the pair of another, by equal pairs
+abbrev pub ReorderingKeepsTaints : Type 0
+ReorderingKeepsTaints = (t u : ClockEvents) (pairs others : List Pair) (to back : ℕ → ℕ) → IsClockReordering t u to back →
+    HaveEqualPairs (clock_skeleton t) to pairs others → (e f : ℕ) → e < length t → f < length t →
+    is_raised u others (to e) (to f) ≡ is_raised t pairs e f
 
 -- the drift that is found is that of the node: its first event of greatest drift among those whose reading is told, if there are some
 abbrev pub ToldDriftsAreFound : Type 0

@@ -1,6 +1,7 @@
 pub mod Answers
 pub mod Audit
 pub mod ClaimedWay
+pub mod FirstToBreak
 pub mod Laws
 pub mod LeftOut
 pub mod Lines

@@ -1,5 +1,5 @@
 -- The lines of a log, and the events whose records begin there.
-use Rattle.std.specs.Prelude.{◌≡◌, ◌==◌, ℕ, ◌<◌, All, List, Option, length, position, unwrap_or}
+use Rattle.std.specs.Prelude.{◌≡◌, ◌==◌, ℕ, ◌<◌, All, List, Option, length, position}
 use Rattle.hlc_log.specs.CausalOrder.{place_at}
 use Rattle.hlc_log.specs.Events.{event_at}
 use Rattle.hlc_log.specs.declared.log_event.LogEvent.{LogEvent}
@@ -8,10 +8,6 @@ use Rattle.hlc_log_report.specs.InOrder.{LogInOrder}
 -- the position of the event of a line, if there is one
 abbrev pub position_on : LogInOrder → ℕ → Option ℕ
 position_on log line = position (λ e. (event_at log.events e).line == line) log.order
-
--- the same, or the end of the log if there is none
-abbrev pub position_or_end : LogInOrder → ℕ → ℕ
-position_or_end log line = unwrap_or (position_on log line) (length log.events)
 
 -- some positions are those of events
 abbrev pub AreEventsIn : LogInOrder → List ℕ → Type 0

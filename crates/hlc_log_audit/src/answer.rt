@@ -6,10 +6,9 @@ ghost use Rattle.hlc_log_audit.specs.Tally.{AreTallies};
 
 use crate::claimed::push_claimed;
 use crate::drift::push_drift;
-use crate::explanation::{push_chain, push_check};
-use crate::influence::push_influenced;
+use crate::event_answer::{push_answer_at, push_check};
+use crate::first_to_break::push_first;
 use crate::known::push_event;
-use crate::relation::push_relation;
 use crate::tally::{NodeTally, tally_nodes};
 use hlc_csv::{OutputFault, RowBuffer};
 use hlc_log_text::LogQuestion;
@@ -19,8 +18,8 @@ use std::io::Write;
 
 /// Adds the one row that answers a question about a log.
 ///
-/// It goes over the events once for what it knows of nodes, and takes memory for each node, and again for a relation. A chain, a way or
-/// influence takes memory as it is found. After a fault nothing is promised of what the writer got.
+/// It goes over the events once for what it knows of nodes, and takes memory for each node, and again for a question about events. A chain, a
+/// way or influence takes memory as it is found. After a fault nothing is promised of what the writer got.
 pub fn push_answer<W: Write>(
     alloc: Global,
     rows: &mut RowBuffer,
@@ -51,19 +50,22 @@ fn push_tallied<W: Write>(
     let files = log.files();
     let ordered = log.ordered();
     match question {
-        LogQuestion::Explain(event) => push_chain(alloc, rows, files, ordered, event, writer),
+        LogQuestion::Explain(_) => push_answer_at(alloc, rows, files, ordered, question, writer),
         LogQuestion::Check { event, chain } => {
             push_check(alloc, rows, files, ordered, event, chain, writer)
         }
-        LogQuestion::Relation { first, second } => {
-            push_relation(alloc, rows, files, ordered, first, second, writer)
+        LogQuestion::Relation { .. } => {
+            push_answer_at(alloc, rows, files, ordered, question, writer)
         }
-        LogQuestion::Influenced(event) => {
-            push_influenced(alloc, rows, files, ordered, event, writer)
+        LogQuestion::Influenced(_) => {
+            push_answer_at(alloc, rows, files, ordered, question, writer)
         }
         LogQuestion::Drift(name) => push_drift(rows, log, tallies, name, writer),
         LogQuestion::Claimed(event) => push_claimed(alloc, rows, files, ordered, event, writer),
         LogQuestion::Event(event) => push_event(rows, log, event, writer),
+        LogQuestion::Why { .. } => push_answer_at(alloc, rows, files, ordered, question, writer),
+        LogQuestion::Tainted(_) => push_answer_at(alloc, rows, files, ordered, question, writer),
+        LogQuestion::First { node, rule } => push_first(rows, log, node, *rule, writer),
     }
 }
 

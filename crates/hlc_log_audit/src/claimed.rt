@@ -10,15 +10,16 @@ ghost use Rattle.hlc_causality.specs.Neighbours.{place_of};
 ghost use Rattle.hlc_stamp.specs.Ids.{places_of};
 ghost use Rattle.hlc_log_audit.specs.ClaimedWay.{IsWayOfL, claimed_way, greater_c, if_same_l, source_of};
 
+use crate::answer_row::push_found;
 use crate::lines::find;
-use crate::way::push_way;
 use crate::words::push_missing;
+use hlc_answers::Answer;
 use hlc_causes::Claims;
 use hlc_csv::{OutputFault, RowBuffer};
 use hlc_execution::Execution;
 use hlc_explain::Missing;
 use hlc_log_report::OrderedLog;
-use hlc_log_text::{Files, Location};
+use hlc_log_text::{Files, LineText, Location};
 use hlc_stamp::EventId;
 use std::alloc::{AllocError, Global};
 use std::io::Write;
@@ -114,6 +115,26 @@ fn way_at(alloc: Global, log: &OrderedLog, event: EventId) -> Result<Vec<EventId
     claimed_way(alloc, log.execution(), log, event)
 }
 
+// Adds the row of the way that the claimed `l` of the event at a position came, which stands on a line.
+fn push_way<W: Write>(
+    alloc: Global,
+    rows: &mut RowBuffer,
+    files: &Files,
+    log: &OrderedLog,
+    line: u64,
+    event: EventId,
+    writer: &mut W,
+) -> Result<(), OutputFault>
+    requires ordered { IsInOrder log.now }
+    requires exists { event.0 < length log.now.events }
+    ensures { OnOk result (AddsRow W.contents writer.old writer.new rows.old rows.new (claimed_fields files.now log.now line event.0)) }
+{
+    let way = way_at(alloc, log, event)?;
+    let found = Answer::of_way(alloc, log.stamp(event), way)?;
+    let text = LineText::new(files, line)?;
+    push_found(alloc, rows, files, log, b"claimed", &[text], &found, writer)
+}
+
 // Answers on which way the claimed `l` of an event came.
 pub(crate) fn push_claimed<W: Write>(
     alloc: Global,
@@ -133,9 +154,5 @@ pub(crate) fn push_claimed<W: Write>(
     let Some(found) = find(log, line) else {
         return push_missing(rows, Missing::Event, writer);
     };
-    let way = way_at(alloc, log, found.position)?;
-    let stamp = log.stamp(found.position);
-    push_way(
-        alloc, rows, b"claimed", files, log, line, stamp, &way, writer,
-    )
+    push_way(alloc, rows, files, log, line, found.position, writer)
 }

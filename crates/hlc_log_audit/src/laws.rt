@@ -10,6 +10,8 @@ ghost use Rattle.hlc_log_audit.specs.Laws.{
   OutcomesAgree,
   RearrangedReportsAgree,
   ReorderingKeepsDrifts,
+  ReorderingKeepsPaths,
+  ReorderingKeepsTaints,
   ReorderingKeepsWays,
   ReportsAgree,
   ToldDriftsAreFound,
@@ -27,6 +29,16 @@ pub fn drifts_are_of_told_readings()
 pub fn reordering_keeps_ways()
     ensures ways { ReorderingKeepsWays }
     ensures logs { WaysAgree }
+{}
+
+/// Nor does the shortest path from one event to another that is found.
+pub fn reordering_keeps_paths()
+    ensures { ReorderingKeepsPaths }
+{}
+
+/// Nor which stamps the floor of an event raised.
+pub fn reordering_keeps_taints()
+    ensures { ReorderingKeepsTaints }
 {}
 
 /// Nor does the drift of a node, by the least stamps, which event shows it, or where that began.

@@ -37,10 +37,15 @@
 //! - `check,LINE,yes` or `no`: whether the other lines that were asked about are a chain for it.
 //! - `relation,LINE,LINE,HOW`: `before`, `after`, `same` or `concurrent`.
 //! - `influenced,LINE,LINE..`: all events that the event happened before, rising by their lines.
+//! - `path,LINE,LINE,LINE..`: a shortest path from one event to another, each a direct predecessor of the next, both ends among them; or
+//!   `path,LINE,LINE,none` if there is none.
+//! - `tainted,LINE,LINE..`: all events whose least stamp is higher for the floor of the event, rising by their lines.
 //! - `drift,NODE,AHEAD,LINE,ORIGIN`, or `drift,NODE,none` for a node of which no reading is told.
 //! - `claimed,LINE,L,C,LINE..`: the claimed stamp, and the way of its `l`.
 //! - `event,LINE,NODE,READING,L,C,LEAST_L,LEAST_C,VERDICT[,LABEL]`: what is known of the event. A receive without a stamp has the one that it
 //!   was given, and `unstamped` in place of a verdict.
+//! - `first,NODE,RULE,LINE`: the first event of the node, in its own order, that breaks the rule which `cause` rows tell by this word; or
+//!   `first,NODE,RULE,none`.
 //! - `refused,no-event` or `refused,no-node`, if the log has no such event or node.
 //!
 //! Text that is not a log is answered by the one row `bad,LINE,WHY`, which names a column besides if one is missing or badly written.
@@ -52,7 +57,7 @@
 //! But for that way it finds nothing itself: `hlc_open_log` reads, and `hlc_log_report`, `hlc_causes` and `hlc_explain` find.
 //!
 //! `laws` says that an audit is a function of its log, what it leaves if all stamps are the least ones, that a log has one answer to each
-//! question, and that drifts and the ways of claimed stamps don't depend on the order in which it tells of its events.
+//! question, and that drifts, paths, the ways of claimed stamps, and what a floor raised don't depend on the order in which it tells of its events.
 //!
 //! A first caller, proved in `hlc_log_examples`: what the audit of a log in memory finds, and its rows.
 //!
@@ -92,6 +97,7 @@
 #![tactic(auto)]
 
 mod answer;
+mod answer_row;
 mod audit;
 mod audited;
 mod causes;
@@ -99,8 +105,8 @@ mod claimed;
 mod claimed_ahead;
 mod counts;
 mod drift;
-mod explanation;
-mod influence;
+mod event_answer;
+mod first_to_break;
 mod known;
 pub mod laws;
 mod left_out;
@@ -110,14 +116,12 @@ mod nodes;
 mod outcome;
 mod over;
 mod overs;
-mod relation;
 mod report;
 mod rules;
 mod skews;
 mod soundness;
 mod tally;
 mod units;
-mod way;
 mod words;
 
 pub use answer::push_answer;

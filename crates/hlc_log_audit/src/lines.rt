@@ -7,8 +7,8 @@ ghost use Rattle.hlc_log_report.specs.InOrder.{IsInOrder, line_in};
 ghost use Rattle.hlc_csv.specs.Rows.{row_field_bytes};
 ghost use Rattle.hlc_log_text.specs.Files.{line_text};
 ghost use Rattle.hlc_open_log.specs.Opened.{LinesRise};
-ghost use Rattle.hlc_log_audit.specs.Answers.{line_or_none, told_in};
-ghost use Rattle.hlc_log_audit.specs.Lines.{AreEventsIn, HasNumbers, IsOnLine, position_on, position_or_end};
+ghost use Rattle.hlc_log_audit.specs.Answers.{position_at, position_or_end, told_in};
+ghost use Rattle.hlc_log_audit.specs.Lines.{AreEventsIn, HasNumbers, IsOnLine, position_on};
 
 use hlc_csv::RowField;
 use hlc_log_report::OrderedLog;
@@ -65,52 +65,72 @@ pub(crate) fn find(log: &OrderedLog, line: u64) -> Option<Found>
     }
 }
 
-// The position of the event of a line, or the end of the log if there is none.
-pub(crate) fn position_or_end(log: &OrderedLog, line: u64) -> EventId
+// The position of the event of a line, if there is one.
+fn position_on(log: &OrderedLog, line: u64) -> Option<EventId>
     requires { LinesRise log.now.events }
-    ensures { result.0 ≡ position_or_end log.now line }
+    ensures position { place_of result ≡ position_on log.now line }
+    ensures exists { IfSome result (λ k. k.0 < length log.now.events) }
 {
     match find(log, line) {
-        Some(found) => found.position,
+        Some(found) => Some(found.position),
+        None => None,
+    }
+}
+
+// The position of the event of a location, if the log has it.
+pub(crate) fn position_at(files: &Files, log: &OrderedLog, location: &Location) -> Option<EventId>
+    requires { LinesRise log.now.events }
+    ensures position { place_of result ≡ position_at files.now log.now location.now }
+    ensures exists { IfSome result (λ k. k.0 < length log.now.events) }
+{
+    match files.line_at(location) {
+        Some(line) => position_on(log, line),
+        None => None,
+    }
+}
+
+// The position of the event of a location, or the end of the log if it doesn't have it.
+pub(crate) fn position_or_end(files: &Files, log: &OrderedLog, location: &Location) -> EventId
+    requires { LinesRise log.now.events }
+    ensures { result.0 ≡ position_or_end files.now log.now location.now }
+{
+    match position_at(files, log, location) {
+        Some(position) => position,
         None => EventId(log.len()),
     }
 }
 
-// The line of a location, or 0, on which no record begins, if the log doesn't have it.
-pub(crate) fn line_or_none(files: &Files, location: &Location) -> u64
-    ensures { result ≡ line_or_none files.now location.now }
-{
-    files.line_at(location).unwrap_or(0)
-}
-
 // The same of some locations.
-pub(crate) fn lines_or_none(
+pub(crate) fn positions_or_end(
     alloc: Global,
     files: &Files,
+    log: &OrderedLog,
     locations: &[Location],
-) -> Result<Vec<u64>, AllocError>
-    ensures { IfOk result (λ lines. lines.items ≡ map (line_or_none files.now) locations.now) }
+) -> Result<Vec<EventId>, AllocError>
+    requires { LinesRise log.now.events }
+    ensures { IfOk result (λ events. places_of events.items ≡ map (position_or_end files.now log.now) locations.now) }
 {
-    let mut lines = Vec::new(alloc);
+    let mut events = Vec::new(alloc);
     for location in locations {
-        lines.push(line_or_none(files, location))?;
+        events.push(position_or_end(files, log, location))?;
     }
-    Ok(lines)
+    Ok(events)
 }
 
-// Adds the lines of events to some numbers.
-pub(crate) fn push_lines(
-    numbers: &mut Vec<u64>,
+// The lines of events.
+pub(crate) fn lines_of(
+    alloc: Global,
     log: &OrderedLog,
     events: &[EventId],
-) -> Result<(), AllocError>
+) -> Result<Vec<u64>, AllocError>
     requires { AreEventsIn log.now (places_of events.now) }
-    ensures { OnOk result (numbers.new.items ≡ numbers.old.items ++ map (line_in log.now) (places_of events.now)) }
+    ensures { IfOk result (λ lines. lines.items ≡ map (line_in log.now) (places_of events.now)) }
 {
+    let mut lines = Vec::new(alloc);
     for event in events {
-        numbers.push(u64::from(log.event(*event).line))?;
+        lines.push(u64::from(log.event(*event).line))?;
     }
-    Ok(())
+    Ok(lines)
 }
 
 // How the line of the event at a position is told.

@@ -19,9 +19,9 @@ use Rattle.hlc_command_line.specs.declared.line_order.DrawLogOptions.{DrawLogOpt
 use Rattle.hlc_log_commands.specs.DrawnLog.{IsAbsent, IsLogDrawnUpToBut, IsOpenedLacking, IsViewOf}
 use Rattle.hlc_log_commands.specs.PartLines.{part_in}
 use Rattle.hlc_log_commands.specs.Records.{IsLengthTold}
-use Rattle.hlc_log_commands.specs.declared.part_lines.PartLines.{PartLines}
-use Rattle.hlc_log_commands.specs.declared.part_lines.RowLines.{RowLines}
-use Rattle.hlc_log_commands.specs.declared.part_lines.RowLines.TheVariants.{Around, Between}
+use Rattle.hlc_command_line.specs.declared.drawn_part.DrawnPart.{DrawnPart}
+use Rattle.hlc_command_line.specs.declared.drawn_part.DrawnRows.{DrawnRows}
+use Rattle.hlc_command_line.specs.declared.drawn_part.DrawnRows.TheVariants.{Around, Between}
 
 -- the row of a line is missing only if the line has no event
 row_absent : (drawn : DrawnLog) (line : Option ℕ) (row : Option EventId) → NamesRow drawn line row → IsMissing drawn.log.events row → IsAbsent drawn line
@@ -34,12 +34,12 @@ row_absent drawn (Some line) (Some k) (inl on) missing =
 row_absent drawn (Some line) (Some k) (inr none) missing = none.0
 
 -- a view explains the event of the line that is named
-view_names : (drawn : DrawnLog) (rows : RowLines) (explained : Option ℕ) (view : View) → IsViewOf drawn rows explained view
+view_names : (drawn : DrawnLog) (rows : DrawnRows ℕ) (explained : Option ℕ) (view : View) → IsViewOf drawn rows explained view
     → NamesRow drawn explained view.explained
 view_names drawn (Between first last) explained view is = subst (λ (v : View). NamesRow drawn explained v.explained) (sym is.6) is.5
 view_names drawn (Around line rows) explained view is = subst (λ (v : View). NamesRow drawn explained v.explained) (sym is.4) is.3
 
-pub explained_absent : (drawn : DrawnLog) (rows : RowLines) (explained : Option ℕ) (view : View) → IsViewOf drawn rows explained view
+pub explained_absent : (drawn : DrawnLog) (rows : DrawnRows ℕ) (explained : Option ℕ) (view : View) → IsViewOf drawn rows explained view
     → IsMissing drawn.log.events view.explained → IsAbsent drawn explained
 explained_absent drawn rows explained view is missing = row_absent drawn explained view.explained (view_names drawn rows explained view is) missing
 
@@ -61,12 +61,12 @@ drawn_of opened ordered drawn same in_order by_stamp log files nodes labels judg
 }
 
 -- the fault of drawing an opened log is of an answer only if the log lacks an event that is named
-pub told_but : (most : ℕ) (options : DrawLogOptions) (input before after : Option (List ℕ)) (opened : OpenedLog) (part : PartLines) (fault : DrawFault)
+pub told_but : (most : ℕ) (options : DrawLogOptions) (input before after : Option (List ℕ)) (opened : OpenedLog) (part : DrawnPart ℕ) (fault : DrawFault)
     → part ≡ part_in opened.files options.part → IsOpened options.records most input opened
     → (IsErrOf {T = Unit {0}} (Err fault) drawing.NoEvent → IsOpenedLacking opened part before after)
     → IsOfAnswer (draw_stop fault) → IsLogDrawnUpToBut most (draw_stop fault) options input before after
 told_but most options input before after opened part drawing.NoEvent same is lacks told =
-    (opened, is, subst (λ (p : PartLines). IsOpenedLacking opened p before after) same (lacks refl))
+    (opened, is, subst (λ (p : DrawnPart ℕ). IsOpenedLacking opened p before after) same (lacks refl))
 told_but most options input before after opened part drawing.Write same is lacks told = absurd told
 told_but most options input before after opened part drawing.Memory same is lacks told = absurd told
 

@@ -1,5 +1,5 @@
 -- What was audited.
-use Rattle.std.specs.Prelude.{◌≡◌, ◌==◌, ◌⊎◌, ⊤, Bool, ℕ, List, [], Option, None, Some, if◌then◌else◌, true, false}
+use Rattle.std.specs.Prelude.{◌≡◌, ◌==◌, ◌||◌, ◌⊎◌, ⊤, Bool, ℕ, List, [], Option, None, Some, if◌then◌else◌, true, false}
 use Rattle.std.specs.Io.KnownBytes.{Appends}
 use Rattle.hlc_stamp.specs.declared.limits.TheConstants.{MAX_CAPACITY}
 use Rattle.hlc_log_audit.specs.Audit.{HasEventCount}
@@ -7,8 +7,10 @@ use Rattle.hlc_log_audit.specs.declared.outcome.Outcome.{Outcome}
 use Rattle.hlc_log_audit.specs.declared.outcome.Outcome.TheVariants as outcome
 use Rattle.hlc_log_audit.specs.declared.rules.AuditRules.{AuditRules}
 use Rattle.hlc_log_groups.specs.GroupRows.{IsGroupedAudit}
-use Rattle.hlc_audit_text.specs.AuditText.{IsTextOf}
-use Rattle.hlc_log_json.specs.JsonRows.{IsJsonOf}
+use Rattle.hlc_log_groups.specs.declared.group_detail.GroupDetail.{GroupDetail}
+use Rattle.hlc_log_groups.specs.declared.group_detail.GroupDetail.TheVariants as detail
+use Rattle.hlc_audit_forms.specs.AuditText.{IsTextOf}
+use Rattle.hlc_audit_forms.specs.JsonRows.{IsJsonOf}
 use Rattle.hlc_log_text.specs.declared.question.LogQuestion.{LogQuestion}
 use Rattle.hlc_command_line.specs.declared.line_order.AuditOptions.{AuditOptions}
 use Rattle.hlc_command_line.specs.declared.line_order.OutputForm.{OutputForm}
@@ -20,36 +22,41 @@ use Rattle.hlc_command_fault.specs.declared.command_fault.CommandFault.TheVarian
 use Rattle.hlc_command_fault.specs.declared.no_events.NoEvents.{NoEvents}
 use Rattle.hlc_command_fault.specs.declared.no_events.NoEvents.TheVariants.{Log}
 
--- the rules that the options of a command line give
+-- whether a form is text
+abbrev pub is_text : OutputForm → Bool
+is_text form.Text = true
+is_text _ = false
+
+-- the rules that the options of a command line give: text has the report in any case
 abbrev pub rules_of : AuditOptions → AuditRules
-rules_of options = record { records = options.records; limit = options.limit; report = options.report }
+rules_of options = record { records = options.records; limit = options.limit; report = options.report || is_text options.output }
 
--- the rows that an audit leaves by these rules, with its causes in groups or not, were written as one object of JSON
-pub record IsJsonAudit (rules : AuditRules) (grouped : Bool) (asked : List LogQuestion) (input before after : Option (List ℕ)) (found : Outcome) : Type 0 where
-  pub rows : List ℕ
-  pub audited : IsGroupedAudit rules grouped asked input (Some []) (Some rows) found
-  pub json : List ℕ
-  pub is_json : IsJsonOf rows json
-  pub written : Appends before after json
+-- what they tell of groups: text has them in any case, and the first causes of each
+abbrev pub told_in : OutputForm → (groups : Bool) → GroupDetail
+told_in form.Text groups = detail.Places
+told_in _ groups = if groups then detail.Groups else detail.Nothing
 
--- the rows that an audit leaves by these rules, with its report in any case and its causes in groups, were told as text
-pub record IsTextAudit (rules : AuditRules) (asked : List LogQuestion) (input before after : Option (List ℕ)) (found : Outcome) : Type 0 where
+abbrev pub told_of : AuditOptions → GroupDetail
+told_of options = told_in options.output options.groups
+
+-- the rows that an audit leaves by these rules, which tell so much of groups, were told in another form
+pub record IsToldAudit (IsTold : (rows text : List ℕ) → Type 0) (rules : AuditRules) (told : GroupDetail) (asked : List LogQuestion)
+    (input before after : Option (List ℕ)) (found : Outcome) : Type 0 where
   pub rows : List ℕ
-  pub audited : IsGroupedAudit (record rules { report = true }) true asked input (Some []) (Some rows) found
+  pub audited : IsGroupedAudit rules told asked input (Some []) (Some rows) found
   pub text : List ℕ
-  pub is_text : IsTextOf rows text
+  pub is_told : IsTold rows text
   pub written : Appends before after text
 
--- what an audit by these rules left, in a form of output
-abbrev pub IsAuditIn : OutputForm → AuditRules → (grouped : Bool) → List LogQuestion → (input before after : Option (List ℕ)) → Outcome → Type 0
-IsAuditIn form.Csv rules grouped asked input before after found = IsGroupedAudit rules grouped asked input before after found
-IsAuditIn form.Json rules grouped asked input before after found = IsJsonAudit rules grouped asked input before after found
-IsAuditIn form.Text rules grouped asked input before after found = IsTextAudit rules asked input before after found
+-- what an audit by these rules left, in a form of output: rows, or these as one object of JSON, or as text
+abbrev pub IsAuditIn : OutputForm → AuditRules → GroupDetail → List LogQuestion → (input before after : Option (List ℕ)) → Outcome → Type 0
+IsAuditIn form.Csv rules told asked input before after found = IsGroupedAudit rules told asked input before after found
+IsAuditIn form.Json rules told asked input before after found = IsToldAudit IsJsonOf rules told asked input before after found
+IsAuditIn form.Text rules told asked input before after found = IsToldAudit IsTextOf rules told asked input before after found
 
--- the log was audited by these options, with these questions asked beside it, and with this outcome; and then its causes were told in groups, if the
--- options want that; all in the form of output that the options say
+-- the log was audited by these options, with these questions asked beside it, and with this outcome, in the form of output that the options say
 abbrev pub IsAuditedBy : AuditOptions → List LogQuestion → (input before after : Option (List ℕ)) → Outcome → Type 0
-IsAuditedBy options asked input before after found = IsAuditIn options.output (rules_of options) options.groups asked input before after found
+IsAuditedBy options asked input before after found = IsAuditIn options.output (rules_of options) (told_of options) asked input before after found
 
 -- the options let an outcome pass: the log isn't over the limit, and if they are strict, it isn't broken
 abbrev pub LetPass : AuditOptions → Outcome → Type 0

@@ -14,13 +14,14 @@ use Rattle.hlc_command_fault.specs.declared.command_fault.CommandFault.{CommandF
 use Rattle.hlc_command_fault.specs.declared.command_fault.CommandFault.TheVariants as stop
 use Rattle.hlc_log_commands.specs.PartLines.{part_in}
 use Rattle.hlc_log_commands.specs.Unopened.{IsToldBad}
-use Rattle.hlc_log_commands.specs.declared.part_lines.PartLines.{PartLines}
-use Rattle.hlc_log_commands.specs.declared.part_lines.PartLines.TheVariants.{Chain, Rows}
-use Rattle.hlc_log_commands.specs.declared.part_lines.RowLines.{RowLines}
-use Rattle.hlc_log_commands.specs.declared.part_lines.RowLines.TheVariants.{Around, Between}
+use Rattle.hlc_command_line.specs.DrawnPart.{event_of_rows}
+use Rattle.hlc_command_line.specs.declared.drawn_part.DrawnPart.{DrawnPart}
+use Rattle.hlc_command_line.specs.declared.drawn_part.DrawnPart.TheVariants.{Chain, Rows}
+use Rattle.hlc_command_line.specs.declared.drawn_part.DrawnRows.{DrawnRows}
+use Rattle.hlc_command_line.specs.declared.drawn_part.DrawnRows.TheVariants.{Around, Between}
 
 -- a view has the rows of a log that are to be drawn, and explains the event of a line
-abbrev pub IsViewOf : DrawnLog → RowLines → (explained : Option ℕ) → View → Type 0
+abbrev pub IsViewOf : DrawnLog → DrawnRows ℕ → (explained : Option ℕ) → View → Type 0
 IsViewOf drawn (Between first last) explained view = IsViewBetween drawn first last explained view
 IsViewOf drawn (Around line rows) explained view = IsViewAround drawn line rows explained view
 
@@ -29,35 +30,30 @@ abbrev pub IsAbsent : DrawnLog → (line : Option ℕ) → Type 0
 IsAbsent drawn None = ⊥
 IsAbsent drawn (Some line) = HasNoRow drawn line
 
--- the line of the event at which rows begin, or about which they stand, if one is named
-abbrev pub line_of_rows : RowLines → Option ℕ
-line_of_rows (Between first last) = first
-line_of_rows (Around line rows) = Some line
-
 -- the event to explain is named and isn't there, or that of the rows
-abbrev pub LacksNamed : DrawnLog → PartLines → Type 0
-LacksNamed drawn (Rows rows explained) = IsAbsent drawn explained ⊎ IsAbsent drawn (line_of_rows rows)
+abbrev pub LacksNamed : DrawnLog → DrawnPart ℕ → Type 0
+LacksNamed drawn (Rows rows explained) = IsAbsent drawn explained ⊎ IsAbsent drawn (event_of_rows rows)
 LacksNamed drawn (Chain line) = HasNoRow drawn line
 
 -- the output got the picture of some rows of a log, or that of the chain of the event of a line alone
-abbrev pub HasPicture : DrawnLog → PartLines → (before after : Option (List ℕ)) → Type 0
+abbrev pub HasPicture : DrawnLog → DrawnPart ℕ → (before after : Option (List ℕ)) → Type 0
 HasPicture drawn (Rows rows explained) before after =
     (view : View) × IsViewOf drawn rows explained view × Appends before after (picture_text (drawn_log drawn view))
 HasPicture drawn (Chain line) before after =
     (row : EventId) × IsRowOn drawn line row.0 × Appends before after (chain_picture_text (drawn_log_chain drawn row))
 
 -- and the log has the events that are named
-abbrev pub IsPartDrawn : DrawnLog → PartLines → (before after : Option (List ℕ)) → Type 0
+abbrev pub IsPartDrawn : DrawnLog → DrawnPart ℕ → (before after : Option (List ℕ)) → Type 0
 IsPartDrawn drawn part before after = HasPicture drawn part before after × (¬ LacksNamed drawn part)
 
 -- a part of an opened log is drawn
-pub record IsOpenedDrawn (opened : OpenedLog) (part : PartLines) (before after : Option (List ℕ)) : Type 0 where
+pub record IsOpenedDrawn (opened : OpenedLog) (part : DrawnPart ℕ) (before after : Option (List ℕ)) : Type 0 where
   pub drawn : DrawnLog
   pub is_drawn : IsDrawnOf opened drawn
   pub picture : IsPartDrawn drawn part before after
 
 -- an event is named that the log doesn't have, and the output got nothing
-pub record IsOpenedLacking (opened : OpenedLog) (part : PartLines) (before after : Option (List ℕ)) : Type 0 where
+pub record IsOpenedLacking (opened : OpenedLog) (part : DrawnPart ℕ) (before after : Option (List ℕ)) : Type 0 where
   pub drawn : DrawnLog
   pub is_drawn : IsDrawnOf opened drawn
   pub absent : LacksNamed drawn part

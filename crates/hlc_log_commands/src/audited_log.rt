@@ -1,39 +1,39 @@
 // The audit of another system's log.
 
-ghost use Rattle.std.specs.Prelude.{◌≡◌, IfErr, IfOk, IsErrOf, None, OnOk, true};
+ghost use Rattle.std.specs.Prelude.{◌≡◌, [], IfErr, IfOk, IsErrOf, None, OnOk, Some, true};
 ghost use Rattle.hlc_stamp.specs.declared.limits.TheConstants.{MAX_CAPACITY};
 ghost use Rattle.hlc_log_text.specs.ReadLog.{HasTooMany};
 ghost use Rattle.hlc_log_audit.specs.Audit.{TellsEvents};
 ghost use Rattle.hlc_log_groups.specs.GroupRows.{IsGroupedAudit};
 ghost use Rattle.hlc_command_fault.specs.Fault.{IsOfAnswer, IsOfInput};
-ghost use Rattle.hlc_log_commands.specs.Audited.{IsAuditPassed, IsAuditedBut, IsAuditedBy, IsJsonAudit, IsLogNote, IsTextAudit, audit_stop, log_note};
+ghost use Rattle.hlc_log_commands.specs.Audited.{IsAuditPassed, IsAuditedBut, IsAuditedBy, IsLogNote, audit_stop, log_note, rules_of, told_of};
 ghost use Rattle.hlc_log_commands.specs.Records.{IsLengthTold, records_in};
 
-use hlc_audit_text::write_text;
+use hlc_audit_forms::{write_json, write_text};
 use hlc_command_fault::{CommandFault, NoEvents};
 use hlc_command_line::{AuditOptions, OutputForm};
 use hlc_csv::RecordsFault;
 use hlc_json_lines::{JsonRules, LogInput};
 use hlc_log_audit::{AuditRules, Audited, Outcome};
-use hlc_log_groups::audit_with_groups;
-use hlc_log_json::write_json;
+use hlc_log_groups::{GroupDetail, audit_with_groups};
 use hlc_log_text::{LogQuestion, NameKey};
 use hlc_stamp::MAX_CAPACITY;
 use std::alloc::Global;
 use std::io::{Read, Write};
 
-// Audits a log in records, or in lines of JSON, and tells its causes in groups, if that is wanted.
+// Audits a log in records, or in lines of JSON if there are rules for these, and writes the rows that `hlc audit` writes of it, with so much of the groups
+// of its causes.
 fn audit_records<I: Read + Drop, O: Write>(
     alloc: Global,
     reader: I,
     writer: &mut O,
     rules: AuditRules,
-    grouped: bool,
+    told: GroupDetail,
     asked: &[LogQuestion],
     json: Option<JsonRules>,
     key: NameKey,
 ) -> Result<Audited, RecordsFault>
-    ensures audited { IfOk result (λ audited. IsGroupedAudit rules grouped asked.now
+    ensures audited { IfOk result (λ audited. IsGroupedAudit rules told asked.now
         (records_in json (I.remaining reader)) (O.contents writer.old) (O.contents writer.new) audited.outcome) }
     ensures counted { IfOk result (TellsEvents rules.records MAX_CAPACITY (records_in json (I.remaining reader))) }
     ensures read { IsErrOf result RecordsFault.Read → writer.new ≡ writer.old }
@@ -41,76 +41,59 @@ fn audit_records<I: Read + Drop, O: Write>(
     ensures nothing { IsErrOf result RecordsFault.TooLong → writer.new ≡ writer.old }
 {
     match LogInput::new(alloc, reader, json) {
-        Ok(input) => audit_with_groups(alloc, input, writer, rules, grouped, asked, key),
+        Ok(input) => audit_with_groups(alloc, input, writer, rules, told, asked, key),
         Err(_) => Err(RecordsFault::Memory),
     }
 }
 
-// Audits a log so, and writes the rows as one object of JSON once it has all of them.
-fn audit_in_json<I: Read + Drop, O: Write>(
+// Audits a log so, and keeps the rows.
+fn audit_to_rows<I: Read + Drop>(
     alloc: Global,
     reader: I,
-    writer: &mut O,
     rules: AuditRules,
-    grouped: bool,
+    told: GroupDetail,
     asked: &[LogQuestion],
     json: Option<JsonRules>,
     key: NameKey,
-) -> Result<Audited, RecordsFault>
-    ensures audited { IfOk result (λ audited. IsJsonAudit rules grouped asked.now
-        (records_in json (I.remaining reader)) (O.contents writer.old) (O.contents writer.new) audited.outcome) }
-    ensures counted { IfOk result (TellsEvents rules.records MAX_CAPACITY (records_in json (I.remaining reader))) }
-    ensures read { IsErrOf result RecordsFault.Read → writer.new ≡ writer.old }
+) -> Result<(Audited, Vec<u8>), RecordsFault>
+    ensures audited { IfOk result (λ left. IsGroupedAudit rules told asked.now
+        (records_in json (I.remaining reader)) (Some []) (Some left.1.items) left.0.outcome) }
+    ensures counted { IfOk result (λ left. TellsEvents rules.records MAX_CAPACITY (records_in json (I.remaining reader)) left.0) }
     ensures too_long { IsErrOf result RecordsFault.TooLong → HasTooMany rules.records MAX_CAPACITY (records_in json (I.remaining reader)) }
-    ensures nothing { IsErrOf result RecordsFault.TooLong → writer.new ≡ writer.old }
 {
     let mut rows = Vec::new(alloc);
-    match audit_records(alloc, reader, &mut rows, rules, grouped, asked, json, key) {
-        Ok(audited) => {
-            write_json(alloc, &rows, writer)?;
-            Ok(audited)
-        }
+    match audit_records(alloc, reader, &mut rows, rules, told, asked, json, key) {
+        Ok(audited) => Ok((audited, rows)),
         // A write into memory fails only where that is refused.
         Err(RecordsFault::Write) => Err(RecordsFault::Memory),
         Err(fault) => Err(fault),
     }
 }
 
-// Audits a log so, with its report in any case and its causes in groups, and tells the rows as text once it has all of them.
-fn audit_in_text<I: Read + Drop, O: Write>(
-    alloc: Global,
-    reader: I,
-    writer: &mut O,
-    rules: AuditRules,
-    asked: &[LogQuestion],
-    json: Option<JsonRules>,
-    key: NameKey,
-) -> Result<Audited, RecordsFault>
-    ensures audited { IfOk result (λ audited. IsTextAudit rules asked.now
-        (records_in json (I.remaining reader)) (O.contents writer.old) (O.contents writer.new) audited.outcome) }
-    ensures counted { IfOk result (TellsEvents rules.records MAX_CAPACITY (records_in json (I.remaining reader))) }
-    ensures read { IsErrOf result RecordsFault.Read → writer.new ≡ writer.old }
-    ensures too_long { IsErrOf result RecordsFault.TooLong → HasTooMany rules.records MAX_CAPACITY (records_in json (I.remaining reader)) }
-    ensures nothing { IsErrOf result RecordsFault.TooLong → writer.new ≡ writer.old }
+// The rules of an audit by the options: text has the report in any case.
+fn rules_of(options: AuditOptions) -> AuditRules
+    ensures { result ≡ rules_of options }
 {
-    let rules = AuditRules {
-        report: true,
-        ..rules
-    };
-    let mut rows = Vec::new(alloc);
-    match audit_records(alloc, reader, &mut rows, rules, true, asked, json, key) {
-        Ok(audited) => {
-            write_text(alloc, &rows, writer)?;
-            Ok(audited)
-        }
-        // A write into memory fails only where that is refused.
-        Err(RecordsFault::Write) => Err(RecordsFault::Memory),
-        Err(fault) => Err(fault),
+    AuditRules {
+        records: options.records,
+        limit: options.limit,
+        report: options.report || matches!(options.output, OutputForm::Text),
     }
 }
 
-// Audits a log by the options, and writes what is found in their form.
-fn audit_by<I: Read + Drop, O: Write>(
+// What the options tell of groups: text has them in any case, and the first causes of each.
+fn told_of(options: AuditOptions) -> GroupDetail
+    ensures { result ≡ told_of options }
+{
+    match options.output {
+        OutputForm::Text => GroupDetail::Places,
+        _ if options.groups => GroupDetail::Groups,
+        _ => GroupDetail::Nothing,
+    }
+}
+
+/// Audits a log by the options, whether they are strict or not, and writes what is found in their form. What the outcome means is left to the caller.
+pub fn audit_by<I: Read + Drop, O: Write>(
     alloc: Global,
     reader: I,
     writer: &mut O,
@@ -126,16 +109,20 @@ fn audit_by<I: Read + Drop, O: Write>(
     ensures too_long { IsErrOf result RecordsFault.TooLong → HasTooMany options.records MAX_CAPACITY (records_in json (I.remaining reader)) }
     ensures nothing { IsErrOf result RecordsFault.TooLong → writer.new ≡ writer.old }
 {
-    let rules = AuditRules {
-        records: options.records,
-        limit: options.limit,
-        report: options.report,
-    };
-    let grouped = options.groups;
+    let rules = rules_of(options);
+    let told = told_of(options);
     match options.output {
-        OutputForm::Csv => audit_records(alloc, reader, writer, rules, grouped, asked, json, key),
-        OutputForm::Json => audit_in_json(alloc, reader, writer, rules, grouped, asked, json, key),
-        OutputForm::Text => audit_in_text(alloc, reader, writer, rules, asked, json, key),
+        OutputForm::Csv => audit_records(alloc, reader, writer, rules, told, asked, json, key),
+        OutputForm::Json => {
+            let (audited, rows) = audit_to_rows(alloc, reader, rules, told, asked, json, key)?;
+            write_json(alloc, &rows, writer)?;
+            Ok(audited)
+        }
+        OutputForm::Text => {
+            let (audited, rows) = audit_to_rows(alloc, reader, rules, told, asked, json, key)?;
+            write_text(alloc, &rows, writer)?;
+            Ok(audited)
+        }
     }
 }
 

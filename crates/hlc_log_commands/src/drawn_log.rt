@@ -3,14 +3,14 @@
 ghost use Rattle.std.specs.Prelude.{◌≡◌, ◌↔◌, ◌≤◌, IfErr, IsErrOf, IsTrue, OnOk};
 ghost use Rattle.hlc_stamp.specs.declared.limits.TheConstants.{MAX_CAPACITY};
 ghost use Rattle.hlc_command_fault.specs.Fault.{IsOfAnswer, IsOfInput};
-ghost use Rattle.hlc_log_commands.specs.DrawnLog.{IsAbsent, IsLogDrawnBut, IsLogDrawnUpTo, IsLogDrawnUpToBut, IsLogDrawnWhole, IsOpenedDrawn, IsOpenedLacking, IsPartDrawn, IsViewOf, LacksNamed, line_of_rows};
+ghost use Rattle.hlc_log_commands.specs.DrawnLog.{IsAbsent, IsLogDrawnBut, IsLogDrawnUpTo, IsLogDrawnUpToBut, IsLogDrawnWhole, IsOpenedDrawn, IsOpenedLacking, IsPartDrawn, IsViewOf, LacksNamed};
 ghost use Rattle.hlc_log_commands.specs.Records.{IsLengthTold, records_in};
-ghost use Rattle.hlc_log_commands.specs.declared.part_lines.PartLines.TheVariants.{Chain, Rows};
+ghost use Rattle.hlc_command_line.specs.declared.drawn_part.DrawnPart.TheVariants.{Chain, Rows};
 
 use crate::opening::open_or_tell;
-use crate::part_lines::{PartLines, RowLines, part_in};
+use crate::part_lines::part_in;
 use hlc_command_fault::CommandFault;
-use hlc_command_line::DrawLogOptions;
+use hlc_command_line::{DrawLogOptions, DrawnPart, DrawnRows};
 use hlc_json_lines::JsonRules;
 use hlc_log_picture::{DrawFault, PicturedLog, View, draw, draw_chain, put_in_row_order};
 use hlc_log_text::NameKey;
@@ -29,38 +29,28 @@ fn is_absent(log: &PicturedLog<'_>, line: Option<u64>) -> bool
     }
 }
 
-// Whether the event at which rows begin, or about which they stand, is named and isn't there.
-fn lacks_rows(log: &PicturedLog<'_>, rows: RowLines) -> bool
-    ensures { IsTrue result ↔ IsAbsent log.now (line_of_rows rows) }
-{
-    match rows {
-        RowLines::Between { from, to: _ } => is_absent(log, from),
-        RowLines::Around { line, rows: _ } => is_absent(log, Some(line)),
-    }
-}
-
 // What is drawn of a log by these rows.
-fn view_of(log: &PicturedLog<'_>, rows: RowLines, explained: Option<u64>) -> View
+fn view_of(log: &PicturedLog<'_>, rows: DrawnRows<u64>, explained: Option<u64>) -> View
     ensures { IsViewOf log.now rows explained result }
 {
     match rows {
-        RowLines::Between { from, to } => log.view(from, to, explained),
-        RowLines::Around { line, rows } => log.view_around(line, rows, explained),
+        DrawnRows::Between { from, to } => log.view(from, to, explained),
+        DrawnRows::Around { event, rows } => log.view_around(event, rows, explained),
     }
 }
 
 // Whether the event to explain is named and isn't there, or that of the rows isn't.
-fn lacks_named(log: &PicturedLog<'_>, rows: RowLines, explained: Option<u64>) -> bool
+fn lacks_named(log: &PicturedLog<'_>, rows: DrawnRows<u64>, explained: Option<u64>) -> bool
     ensures { IsTrue result ↔ LacksNamed log.now (Rows rows explained) }
 {
-    is_absent(log, explained) || lacks_rows(log, rows)
+    is_absent(log, explained) || is_absent(log, rows.event())
 }
 
 // Draws some rows of a log, if it has the events that are named.
 fn draw_rows<O: Write>(
     alloc: Global,
     log: &PicturedLog<'_>,
-    rows: RowLines,
+    rows: DrawnRows<u64>,
     explained: Option<u64>,
     writer: &mut O,
 ) -> Result<(), DrawFault>
@@ -95,7 +85,7 @@ fn draw_chain_of<O: Write>(
 fn draw_part<O: Write>(
     alloc: Global,
     log: &PicturedLog<'_>,
-    part: PartLines,
+    part: DrawnPart<u64>,
     writer: &mut O,
 ) -> Result<(), DrawFault>
     ensures done { OnOk result (IsPartDrawn log.now part (O.contents writer.old) (O.contents writer.new)) }
@@ -103,8 +93,8 @@ fn draw_part<O: Write>(
         → LacksNamed log.now part × (O.contents writer.new ≡ O.contents writer.old) }
 {
     match part {
-        PartLines::Rows { rows, explained } => draw_rows(alloc, log, rows, explained, writer),
-        PartLines::Chain { line } => draw_chain_of(alloc, log, line, writer),
+        DrawnPart::Rows { rows, explained } => draw_rows(alloc, log, rows, explained, writer),
+        DrawnPart::Chain { event } => draw_chain_of(alloc, log, event, writer),
     }
 }
 
@@ -112,7 +102,7 @@ fn draw_part<O: Write>(
 fn draw_opened<O: Write>(
     alloc: Global,
     log: &mut OpenLog,
-    part: PartLines,
+    part: DrawnPart<u64>,
     writer: &mut O,
 ) -> Result<(), DrawFault>
     ensures done { OnOk result (IsOpenedDrawn log.old part (O.contents writer.old) (O.contents writer.new)) }

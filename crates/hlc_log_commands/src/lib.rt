@@ -2,7 +2,8 @@
 //!
 //! Each is a function over a reader and a writer, and answers with the fault that stopped it.
 //!
-//! - `audit_log` audits a log, as `hlc audit` does, and answers what is asked beside it.
+//! - `audit_log` audits a log, as `hlc audit` does, and answers what is asked beside it; `audit_by` writes the same, and leaves it to the caller
+//!   what the outcome means.
 //! - `draw_log` draws a part of it, as `hlc draw-log` does, and `draw_log_up_to` one of a log of at most so many records. Where a part is named by
 //!   lines in files, the log that was read says which lines these are.
 //! - `vectors_of_log` writes it with the vectors of its events, as `hlc vectors` does.
@@ -17,7 +18,7 @@ mod log_with_vectors;
 mod opening;
 mod part_lines;
 
-pub use audited_log::audit_log;
+pub use audited_log::{audit_by, audit_log};
 pub use drawn_log::{draw_log, draw_log_up_to};
 pub use hlc_command_fault::CommandFault;
 pub use hlc_log_text::NameKey;

@@ -106,8 +106,8 @@ module _ (h : History) (clocked : IsClocked h) (report : Bool) (text : LogText) 
   is_history : IsHistoryLog h.events text.log.events
   is_history = log_is_read h clocked text read
 
-  nothing_missing : missing_rows text.files text.log.events None ≡ []
-  nothing_missing = none_missing text.files text.log.events
+  nothing_missing : missing_rows text.details.files text.log.events None ≡ []
+  nothing_missing = none_missing text.details.files text.log.events
       (λ e lt. is_history.no_rule Tick e (let size = is_history.size in omega arith))
       (λ e lt. logs_tell_readings h text e clocked read lt)
       (λ e lt. logs_tell_stamps h text e clocked read lt)
@@ -139,7 +139,7 @@ module _ (h : History) (clocked : IsClocked h) (report : Bool) (text : LogText) 
       (sym (
       whole.4
       ∙ ap (λ (left_out : List BadLine). (((whole.0 ++ taken_rows opened.unsent opened.resent) ++ missing_rows opened.files log.events opened.skipped) ++ left_out_rows opened.files left_out) ++ whole.1)
-      (is.left_out ∙ ap (λ (lines : List BadLine). text.left_out.items ++ lines) all.1 ∙ append-nil text.left_out.items ∙ alone.3)
+      (is.left_out ∙ ap (λ (lines : List BadLine). text.details.left_out ++ lines) all.1 ∙ append-nil text.details.left_out ∙ alone.3)
       ∙ ap (λ (rows : List Fields). rows ++ whole.1) (append-nil ((whole.0 ++ taken_rows opened.unsent opened.resent) ++ missing_rows opened.files log.events opened.skipped))
       ∙ (λ i. ((whole.0 ++ taken_rows (is.ordered.taken i) (is.ordered.again i)) ++ missing_rows opened.files log.events opened.skipped) ++ whole.1)
       ∙ ap (λ (missing : List Fields). ((whole.0 ++ []) ++ missing) ++ whole.1) ((λ i. missing_rows (is.files i) (events i) (none_skipped i)) ∙ nothing_missing)
@@ -158,7 +158,7 @@ module _ (h : History) (clocked : IsClocked h) (report : Bool) (text : LogText) 
         one_each = ap (λ (all : List LogEvent). length all) events ∙ alone.0;
         all_told = all_counted (stamp_told log) (length log.order) told_each ∙ order_len log.events log.order in_order.causal;
         clean =
-            subst (λ (nodes : List (List ℕ)). IsCleanReport text.files nodes log told.rows) is.nodes
+            subst (λ (nodes : List (List ℕ)). IsCleanReport text.details.files nodes log told.rows) is.nodes
             (subst (λ (files : List FileMark). IsCleanReport files opened.nodes log told.rows) is.files
             (least_stamps_report_clean opened.files opened.nodes log opened.full told.rows in_order same right is_report));
         written = told.written;

@@ -35,7 +35,7 @@ pub record IsFoundSound (h : History) (before after : Option (List ℕ)) (result
   pub one_each : length log.events ≡ length h.events
   pub all_told : told_count log ≡ length log.events
   pub rows : List Fields
-  pub clean : IsCleanReport text.files text.nodes log rows
+  pub clean : IsCleanReport text.details.files text.details.nodes log rows
   pub written : Appends before after (text_of rows)
 
 -- so it is whenever the log of a history is read whole and audited

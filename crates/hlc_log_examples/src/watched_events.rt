@@ -12,10 +12,10 @@ use std::alloc::AllocError;
 /// Which rules an event breaks, as it comes, if all its records are there.
 pub fn watch_event(watch: &mut Watch, event: &LogEvent) -> Result<Option<LineCauses>, AllocError>
     requires { IsSmallCarried event.now.carried }
-    ensures causes { IfOk result (λ causes. causes ≡ option_map (line_causes (2 ^ 32 - 1)) (event_of watch.old (ruled_by Receives.Tick event.now))) }
-    ensures kept { OnOk result (watch.new ≡ after_event watch.old (ruled_by Receives.Tick event.now)) }
+    ensures causes { IfOk result (λ causes. causes ≡ option_map (line_causes (2 ^ 32 - 1)) (event_of watch.old (ruled_by Receives.Tick 0 event.now))) }
+    ensures kept { OnOk result (watch.new ≡ after_event watch.old (ruled_by Receives.Tick 0 event.now)) }
     ensures unchanged { OnErr result (watch.new ≡ watch.old) }
 {
-    let complete = watch.event(RuledEvent::new(Receives::Tick, event))?;
+    let complete = watch.event(RuledEvent::new(Receives::Tick, 0, event))?;
     Ok(complete.event.map(|records| records.causes(u32::MAX)))
 }

@@ -1,11 +1,9 @@
 -- The laws of groups.
 use Rattle.std.proofs.Common.{◌≡◌, ◌∙◌, Bool, true, false, cond, ℕ, ◌+◌, ◌<◌, inl, inr, List, [], ◌∷◌, ◌++◌, length, Option, Some, None, arith, length-append, refl, sym, ap}
-use Rattle.std.specs.Prelude.{count_by, if◌then◌else◌, option_map, slice_index_or}
+use Rattle.std.specs.Prelude.{if◌then◌else◌, option_map, option_to_list, slice_index_or}
 use Rattle.std.specs.Bool.{then_some}
 use Rattle.std.specs.List.{flat_map}
-use Rattle.std.specs.Map.{lookup}
 use Rattle.std.specs.Ordering.{is_le, is_lt}
-use Rattle.std.proofs.lemmas.List.Sums.{sum_by-cons}
 use Rattle.hlc_stamp.specs.declared.id.EventId.{EventId}
 use Rattle.hlc_stamp.specs.Order.{IsAtMost, IsBelow, Pair, stamp_cmp}
 use Rattle.hlc_causality.specs.Assignment.{pair_at}
@@ -24,11 +22,11 @@ use Rattle.hlc_log_report.specs.InOrder.{LogInOrder}
 use Rattle.hlc_log_text.specs.declared.file_mark.FileMark.{FileMark}
 use Rattle.hlc_log_audit.specs.Report.{cause_row, cause_rows_at, wrong_at, wrong_row}
 use Rattle.hlc_log_groups.specs.Followed.{followed_at, followed_in, greater_of, pair_after, unless_below}
-use Rattle.hlc_log_groups.specs.Groups.{KeyedCauses, is_same_key, key_at, keyed, keyed_at}
+use Rattle.hlc_log_groups.specs.Groups.{KeyedCauses, cause_at, group_at, id_of, is_same_key, keyed_at, places_with}
 use Rattle.hlc_log_groups.specs.Laws.{GroupsAddUp, NoGroupIsEmpty, RulePairFollows}
 use Rattle.hlc_log_groups.specs.declared.broken_rule.BrokenRule.TheVariants as rule
 use Rattle.hlc_log_groups.specs.declared.cause_group.CauseGroup.{CauseGroup}
-use Rattle.hlc_log_groups.specs.declared.group_key.GroupKey.{GroupKey}
+use Rattle.hlc_log_groups.specs.declared.cause_place.CausePlace.{CausePlace}
 
 -- pairs that tie are equal
 tied : (p q : Pair) → IsAtMost p q → IsAtMost q p → p ≡ q
@@ -108,36 +106,36 @@ five_long a b c d e =
     ∙ ap (λ (n : ℕ). length b + n) (length-append c (d ++ e) ∙ ap (λ (n : ℕ). length c + n) (length-append d e)))
 
 module _ (files : List FileMark) (nodes : List (List ℕ)) (log : LogInOrder) (full e : ℕ) where
-  behind_long : (b : Bool) → length (keyed e (then_some b (key_at log e rule.Behind None))) ≡ length (cause_row files nodes log full e (then_some b cause.Behind))
+  behind_long : (b : Bool) → length (option_to_list (then_some b (cause_at log e rule.Behind None))) ≡ length (cause_row files nodes log full e (then_some b cause.Behind))
   behind_long true = refl
   behind_long false = refl
 
-  previous_long : (o : Option EventId) → length (keyed e (option_map (λ d. key_at log e rule.NotAbove (Some d.0)) o))
+  previous_long : (o : Option EventId) → length (option_to_list (option_map (λ d. cause_at log e rule.NotAbove (Some d)) o))
       ≡ length (cause_row files nodes log full e (option_map (λ d. cause.NotAbovePrevious d) o))
   previous_long None = refl
   previous_long (Some d) = refl
 
-  send_long : (o : Option EventId) → length (keyed e (option_map (λ d. key_at log e rule.NotAbove (Some d.0)) o))
+  send_long : (o : Option EventId) → length (option_to_list (option_map (λ d. cause_at log e rule.NotAbove (Some d)) o))
       ≡ length (cause_row files nodes log full e (option_map (λ d. cause.NotAboveSend d) o))
   send_long None = refl
   send_long (Some d) = refl
 
-  ahead_long : (o : Option Pair) → length (keyed e (option_map (λ p. key_at log e rule.Ahead (followed_in log (index_in log.order e))) o))
+  ahead_long : (o : Option Pair) → length (option_to_list (option_map (λ p. cause_at log e rule.Ahead (id_of (followed_in log (index_in log.order e)))) o))
       ≡ length (cause_row files nodes log full e (option_map (λ p. cause.Ahead p) o))
   ahead_long None = refl
   ahead_long (Some p) = refl
 
-  wrong_long : (o : Option ℕ) → length (keyed e (option_map (λ d. key_at log e rule.Carried (Some d)) o)) ≡ length (wrong_row files nodes log e o)
+  wrong_long : (o : Option ℕ) → length (option_to_list (option_map (λ d. cause_at log e rule.Carried (Some d)) (id_of o))) ≡ length (wrong_row files nodes log e o)
   wrong_long None = refl
   wrong_long (Some d) = refl
 
   as_many : (found : Causes) → length (keyed_at log e found) ≡ length (cause_rows_at files nodes log full e found)
   as_many found =
-      five_long (keyed e (then_some found.behind (key_at log e rule.Behind None)))
-      (keyed e (option_map (λ d. key_at log e rule.NotAbove (Some d.0)) found.not_above_previous))
-      (keyed e (option_map (λ d. key_at log e rule.NotAbove (Some d.0)) found.not_above_send))
-      (keyed e (option_map (λ p. key_at log e rule.Ahead (followed_in log (index_in log.order e))) found.ahead))
-      (keyed e (option_map (λ d. key_at log e rule.Carried (Some d)) (wrong_at log e)))
+      five_long (option_to_list (then_some found.behind (cause_at log e rule.Behind None)))
+      (option_to_list (option_map (λ d. cause_at log e rule.NotAbove (Some d)) found.not_above_previous))
+      (option_to_list (option_map (λ d. cause_at log e rule.NotAbove (Some d)) found.not_above_send))
+      (option_to_list (option_map (λ p. cause_at log e rule.Ahead (id_of (followed_in log (index_in log.order e)))) found.ahead))
+      (option_to_list (option_map (λ d. cause_at log e rule.Carried (Some d)) (id_of (wrong_at log e))))
       ∙ (λ i. behind_long found.behind i + (previous_long found.not_above_previous i + (send_long found.not_above_send i
       + (ahead_long found.ahead i + wrong_long (wrong_at log e) i))))
       ∙ sym (five_long (cause_row files nodes log full e (then_some found.behind cause.Behind))
@@ -151,33 +149,15 @@ groups_add_up files nodes log full causes groups are =
     ∙ same_lengths (λ e. keyed_at log e (slice_index_or causes e no_causes)) (λ e. cause_rows_at files nodes log full e (slice_index_or causes e no_causes))
     (places_below (length log.events)) (λ e. as_many files nodes log full e (slice_index_or causes e no_causes))
 
--- where one is found, some are counted
-module _ (key : GroupKey) where
-  some_counted : (causes : KeyedCauses) (place : EventId) → lookup (is_same_key key) causes ≡ Some place → 0 < count_by (λ cause. is_same_key key cause.0) causes
-  some_counted [] place is = absurd cc
-  some_counted (c ∷ cs) place is =
-      let all : count_by (λ cause. is_same_key key cause.0) (c ∷ cs)
-      ≡ cond (is_same_key key c.0) 1 0 + count_by (λ cause. is_same_key key cause.0) cs = sum_by-cons (λ cause. cond (is_same_key key cause.0) 1 0) c cs in
-      let some = by_test (is_same_key key c.0) is (some_counted cs place) in
-      omega (arith, all, some)
-    where
-      by_test : (b : Bool) → (let o : Option EventId = cond b (Some c.1) (lookup (is_same_key key) cs) in o) ≡ Some place
-          → (lookup (is_same_key key) cs ≡ Some place → 0 < count_by (λ cause. is_same_key key cause.0) cs)
-          → 0 < cond b 1 0 + count_by (λ cause. is_same_key key cause.0) cs
-      by_test true found rest = omega arith
-      by_test false found rest = let more = rest found in omega (arith, more)
-
-  not_empty : (causes : KeyedCauses) (group : CauseGroup) (o : Option EventId) → lookup (is_same_key key) causes ≡ o
-      → option_map (λ first. record { causes = count_by (λ cause. is_same_key key cause.0) causes; first = first }) o ≡ Some group → 0 < group.causes
-  not_empty causes group None none is = absurd cc
-  not_empty causes group (Some place) found is =
-      let number : count_by (λ cause. is_same_key key cause.0) causes ≡ group.causes = of_some is in
-      let some = some_counted causes place found in
-      omega (arith, number, some)
-    where
-      of_some : {a : CauseGroup} → Some a ≡ Some group → a.causes ≡ group.causes
-      of_some same = cc
+-- a group of some places is not empty
+not_empty : (places : List CausePlace) (group : CauseGroup) → group_at places ≡ Some group → 0 < group.causes
+not_empty [] group none = absurd cc
+not_empty (first ∷ more) group some =
+    let number : length (first ∷ more) ≡ group.causes = of_some some in
+    omega (arith, number)
+  where
+    of_some : {a : CauseGroup} → Some a ≡ Some group → a.causes ≡ group.causes
+    of_some same = cc
 
 pub no_group_is_empty : NoGroupIsEmpty
-no_group_is_empty causes groups key group are found =
-    not_empty key causes group (lookup (is_same_key key) causes) refl (sym (are.each key) ∙ found)
+no_group_is_empty causes groups key group are found = not_empty (places_with causes key) group (sym (are.each key) ∙ found)

@@ -1,23 +1,25 @@
 -- The groups of some causes, and of one more.
-use Rattle.std.proofs.Common.{◌≡◌, ◌∙◌, Bool, true, false, cond, ℕ, ◌+◌, ◌<◌, ◌||◌, ◌&&◌, ◌==◌, eq-eqb, eqb-true, inl, inr, List, [], ◌∷◌, ◌++◌, Option, Some, None, append-nil, arith, length-append, refl, subst, sym, ap}
-use Rattle.std.specs.Prelude.{IfSome, count_by, if◌then◌else◌, option_map}
+use Rattle.std.proofs.Common.{◌≡◌, ◌∙◌, Bool, true, false, cond, ℕ, ◌+◌, ◌<◌, ◌||◌, ◌&&◌, ◌==◌, eq-eqb, eqb-true, inl, inr, List, [], ◌∷◌, ◌++◌, Option, Some, None, append-nil, arith, length, length-append, refl, subst, sym, ap}
+use Rattle.std.specs.Prelude.{IfSome, filter, if◌then◌else◌, is_some, map, option_to_list}
 use Rattle.std.specs.List.{list_any}
 use Rattle.std.specs.Map.{keys_of, lookup}
 use Rattle.std.specs.Option.{option_eq, option_or}
 use Rattle.std.proofs.lemmas.Bool.{and_parts, cases_Bool}
-use Rattle.std.proofs.lemmas.List.{append_assoc}
-use Rattle.std.proofs.lemmas.List.Elements.{All-cons, All-head, All-nil, All-tail}
-use Rattle.std.proofs.lemmas.List.Sums.{fold-append, sum_by-append, sum_by-cons}
+use Rattle.std.proofs.lemmas.List.{append_assoc, length_push, map-append}
+use Rattle.std.proofs.lemmas.List.Elements.{All-cons, All-head, All-nil, All-tail, filter-append}
+use Rattle.std.proofs.lemmas.List.Sums.{fold-append, sum_by-cons}
 use Rattle.std.specs.Io.KnownBytes.{Appends}
 use Rattle.hlc_csv.specs.Rows.{text_of}
 use Rattle.indexmap.specs.IndexMap.{insert_entry}
+use Rattle.hlc_causality.specs.Neighbours.{place_of}
 use Rattle.hlc_stamp.specs.declared.id.EventId.{EventId}
 use Rattle.hlc_stamp.specs.declared.id.NodeId.{NodeId}
 use Rattle.hlc_log_groups.specs.declared.broken_rule.BrokenRule.{BrokenRule}
 use Rattle.hlc_log_groups.specs.declared.broken_rule.BrokenRule.TheVariants.{Behind, NotAbove, Ahead, Carried}
 use Rattle.hlc_log_groups.specs.declared.cause_group.CauseGroup.{CauseGroup}
+use Rattle.hlc_log_groups.specs.declared.cause_place.CausePlace.{CausePlace}
 use Rattle.hlc_log_groups.specs.declared.group_key.GroupKey.{GroupKey}
-use Rattle.hlc_log_groups.specs.Groups.{AreGroups, BeginBefore, Groups, KeyedCauses, group_of, is_same_key, is_same_rule, keyed, keys_in, total, with_cause, with_key}
+use Rattle.hlc_log_groups.specs.Groups.{AreGroups, Groups, KeyedCause, KeyedCauses, NameBefore, NamesBefore, NamesEventsBefore, group_at, group_of, id_of, is_same_key, is_same_rule, keys_in, places_with, total, with_cause, with_key}
 
 -- keys are told apart
 same_rule : (a b : BrokenRule) → is_same_rule a b ≡ true → a ≡ b
@@ -82,7 +84,7 @@ other_way a b differs = elim (cases_Bool (is_same_key b a)) [
 ]
 
 -- one cause more, of a key and at a place
-module _ (k : GroupKey) (place : EventId) where
+module _ (k : GroupKey) (place : CausePlace) where
   abbrev one : KeyedCauses
   one = (k, place) ∷ []
 
@@ -168,112 +170,88 @@ module _ (k : GroupKey) (place : EventId) where
       by_test true here there = here
       by_test false here there = there
 
-  -- where the first ones stand
-  begins : (n : ℕ) (group : Option CauseGroup) → place.0 < n → IfSome group (λ found. found.first.0 < n) → (with_cause group place).first.0 < n
-  begins n None here there = here
-  begins n (Some group) here there = there
+  -- the events that the first ones name
+  or_this : (n : ℕ) (other : Option CausePlace) → NamesEventsBefore n place → IfSome other (NamesEventsBefore n)
+      → IfSome (option_or other (Some place)) (NamesEventsBefore n)
+  or_this n None here there = here
+  or_this n (Some x) here there = there
 
-  abbrev Begins : (n : ℕ) → GroupKey × CauseGroup → Type 0
-  Begins n group = group.1.first.0 < n
+  if_both : (n : ℕ) (second third : Option CausePlace) → NamesEventsBefore n place → IfSome third (NamesEventsBefore n)
+      → IfSome (if is_some second then option_or third (Some place) else None) (NamesEventsBefore n)
+  if_both n None third here there = tt
+  if_both n (Some x) third here there = or_this n third here there
 
-  begins_found : (n : ℕ) (groups : Groups) → BeginBefore n groups → IfSome (lookup (is_same_key k) groups) (λ found. found.first.0 < n)
-  begins_found n [] all = tt
-  begins_found n (e ∷ es) all = by_test (is_same_key k e.0) (All-head (Begins n) e es all) (begins_found n es (All-tail (Begins n) e es all))
+  names : (n : ℕ) (group : Option CauseGroup) → NamesEventsBefore n place → IfSome group (NamesBefore n) → NamesBefore n (with_cause group place)
+  names n None here there = record { first = here; second = tt; third = tt }
+  names n (Some group) here there = record {
+    first = there.first;
+    second = or_this n group.second here there.second;
+    third = if_both n group.second group.third here there.third;
+  }
+
+  abbrev Names : (n : ℕ) → GroupKey × CauseGroup → Type 0
+  Names n group = NamesBefore n group.1
+
+  names_found : (n : ℕ) (groups : Groups) → NameBefore n groups → IfSome (lookup (is_same_key k) groups) (NamesBefore n)
+  names_found n [] all = tt
+  names_found n (e ∷ es) all = by_test (is_same_key k e.0) (All-head (Names n) e es all) (names_found n es (All-tail (Names n) e es all))
     where
-      by_test : (b : Bool) → e.1.first.0 < n → IfSome (lookup (is_same_key k) es) (λ found. found.first.0 < n) → IfSome (found_or e es b) (λ found. found.first.0 < n)
+      by_test : (b : Bool) → Names n e → IfSome (lookup (is_same_key k) es) (NamesBefore n) → IfSome (found_or e es b) (NamesBefore n)
       by_test true here there = here
       by_test false here there = there
 
-  begin_inserted : (n : ℕ) (v : CauseGroup) (groups : Groups) → v.first.0 < n → BeginBefore n groups → BeginBefore n (insert_entry is_same_key groups k v)
-  begin_inserted n v [] here all = All-cons (Begins n) (k, v) [] here (All-nil (Begins n))
-  begin_inserted n v (e ∷ es) here all =
-      by_test (is_same_key k e.0) (All-head (Begins n) e es all) (All-tail (Begins n) e es all)
-      (begin_inserted n v es here (All-tail (Begins n) e es all))
+  name_inserted : (n : ℕ) (v : CauseGroup) (groups : Groups) → NamesBefore n v → NameBefore n groups → NameBefore n (insert_entry is_same_key groups k v)
+  name_inserted n v [] here all = All-cons (Names n) (k, v) [] here (All-nil (Names n))
+  name_inserted n v (e ∷ es) here all =
+      by_test (is_same_key k e.0) (All-head (Names n) e es all) (All-tail (Names n) e es all)
+      (name_inserted n v es here (All-tail (Names n) e es all))
     where
-      by_test : (b : Bool) → Begins n e → BeginBefore n es → BeginBefore n (insert_entry is_same_key es k v) → BeginBefore n (at_or_past v e es b)
-      by_test true first rest inserted = All-cons (Begins n) (e.0, v) es here rest
-      by_test false first rest inserted = All-cons (Begins n) e (insert_entry is_same_key es k v) first inserted
+      by_test : (b : Bool) → Names n e → NameBefore n es → NameBefore n (insert_entry is_same_key es k v) → NameBefore n (at_or_past v e es b)
+      by_test true first rest inserted = All-cons (Names n) (e.0, v) es here rest
+      by_test false first rest inserted = All-cons (Names n) e (insert_entry is_same_key es k v) first inserted
 
-  pub begin_more : (n : ℕ) (groups : Groups) → place.0 < n → BeginBefore n groups → BeginBefore n (after groups)
-  begin_more n groups here all =
-      begin_inserted n (with_cause (lookup (is_same_key k) groups) place) groups (begins n (lookup (is_same_key k) groups) here (begins_found n groups all)) all
+  pub name_more : (n : ℕ) (groups : Groups) → NamesEventsBefore n place → NameBefore n groups → NameBefore n (after groups)
+  name_more n groups here all =
+      name_inserted n (with_cause (lookup (is_same_key k) groups) place) groups (names n (lookup (is_same_key k) groups) here (names_found n groups all)) all
 
   -- what is told of a key, with one cause more
   module _ (key : GroupKey) where
-    abbrev count : KeyedCauses → ℕ
-    count causes = count_by (λ cause. is_same_key key cause.0) causes
+    abbrev has_key : KeyedCause → Bool
+    has_key cause = is_same_key key cause.0
 
-    abbrev first : KeyedCauses → Option EventId
-    first causes = lookup (is_same_key key) causes
-
-    abbrev counts : GroupKey × EventId → ℕ
-    counts cause = cond (is_same_key key cause.0) 1 0
-
-    count_more : (causes : KeyedCauses) → count (causes ++ one) ≡ count causes + cond (is_same_key key k) 1 0
-    count_more causes =
-        let all : count (causes ++ one) ≡ count causes + count one = sum_by-append counts causes one in
-        let last : count one ≡ cond (is_same_key key k) 1 0 + 0 = sum_by-cons counts (k, place) [] in
-        omega (arith, all, last)
-
-    first_more : (causes : KeyedCauses) → first (causes ++ one) ≡ option_or (first causes) (cond (is_same_key key k) (Some place) None)
-    first_more [] = refl
-    first_more (c ∷ cs) = by_test (is_same_key key c.0) (first_more cs)
+    places_more : (causes : KeyedCauses) → places_with (causes ++ one) key ≡ places_with causes key ++ (if is_same_key key k then place ∷ [] else [])
+    places_more causes =
+        ap (map (λ (cause : KeyedCause). cause.1)) (filter-append has_key causes one)
+        ∙ map-append (λ (cause : KeyedCause). cause.1) (filter has_key causes) (filter has_key one)
+        ∙ ap (λ (last : List CausePlace). places_with causes key ++ last) (by_test (is_same_key key k))
       where
-        by_test : (b : Bool) → first (cs ++ one) ≡ option_or (first cs) (cond (is_same_key key k) (Some place) None)
-            → (let o : Option EventId = cond b (Some c.1) (first (cs ++ one)) in o) ≡ option_or (cond b (Some c.1) (first cs)) (cond (is_same_key key k) (Some place) None)
-        by_test true rest = refl
-        by_test false rest = rest
-
-    -- where none is found, none is counted
-    none_counted : (causes : KeyedCauses) → first causes ≡ None → count causes ≡ 0
-    none_counted [] none = refl
-    none_counted (c ∷ cs) none =
-        let all : count (c ∷ cs) ≡ cond (is_same_key key c.0) 1 0 + count cs = sum_by-cons counts c cs in
-        all ∙ by_test (is_same_key key c.0) none (none_counted cs)
-      where
-        by_test : (b : Bool) → (let o : Option EventId = cond b (Some c.1) (first cs) in o) ≡ None → (first cs ≡ None → count cs ≡ 0)
-            → cond b 1 0 + count cs ≡ 0
-        by_test true some rest = absurd cc
-        by_test false none rest = let nothing = rest none in omega (arith, nothing)
-
-    -- a group as it is told
-    abbrev told : ℕ → Option EventId → Option CauseGroup
-    told n place = option_map (λ place. record { causes = n; first = place }) place
+        by_test : (b : Bool) → map (λ (cause : KeyedCause). cause.1) (cond b one []) ≡ (if b then place ∷ [] else [])
+        by_test true = refl
+        by_test false = refl
 
     -- what is told of another key stays
     pub other_stays : is_same_key key k ≡ false → (causes : KeyedCauses) → group_of (causes ++ one) key ≡ group_of causes key
     other_stays differs causes =
-        let number : count (causes ++ one) ≡ count causes =
-        omega (arith, count_more causes, ap {B = ℕ} (λ (b : Bool). cond b 1 0) differs) in
-        let place_of : first (causes ++ one) ≡ first causes =
-        first_more causes ∙ ap (λ (b : Bool). option_or (first causes) (cond b (Some place) None)) differs ∙ or_none (first causes) in
-        λ i. told (number i) (place_of i)
-      where
-        or_none : (o : Option EventId) → option_or o None ≡ o
-        or_none None = refl
-        or_none (Some x) = refl
+        let places = places_with causes key in
+        ap group_at (places_more causes ∙ ap (λ (b : Bool). places ++ (if b then place ∷ [] else [])) differs ∙ append-nil places)
+
+    -- one place more
+    group_at-more : (places : List CausePlace) → group_at (places ++ place ∷ []) ≡ Some (with_cause (group_at places) place)
+    group_at-more [] = refl
+    group_at-more (a ∷ []) = refl
+    group_at-more (a ∷ b ∷ []) = refl
+    group_at-more (a ∷ b ∷ c ∷ more) =
+        let number : length (a ∷ b ∷ c ∷ more ++ place ∷ []) ≡ length (a ∷ b ∷ c ∷ more) + 1 = length_push (a ∷ b ∷ c ∷ more) place in
+        λ i. Some (record { causes = number i; first = a; second = Some b; third = Some c })
 
     -- its own group has one more
     pub own_grows : is_same_key key k ≡ true → (causes : KeyedCauses) → group_of (causes ++ one) key ≡ Some (with_cause (group_of causes key) place)
     own_grows same causes =
-        let number : count (causes ++ one) ≡ count causes + 1 = omega (arith, count_more causes, ap {B = ℕ} (λ (b : Bool). cond b 1 0) same) in
-        let place_of : first (causes ++ one) ≡ option_or (first causes) (Some place) =
-        first_more causes ∙ ap (λ (b : Bool). option_or (first causes) (cond b (Some place) None)) same in
-        (λ i. told (number i) (place_of i)) ∙ by_first (first causes) refl
-      where
-        by_first : (o : Option EventId) → first causes ≡ o → told (count causes + 1) (option_or (first causes) (Some place))
-            ≡ Some (with_cause (told (count causes) (first causes)) place)
-        by_first None is =
-            let none : count causes + 1 ≡ 1 = omega (arith, none_counted causes is) in
-            ap (λ (o : Option EventId). told (count causes + 1) (option_or o (Some place))) is
-            ∙ (λ i. told (none i) (Some place))
-            ∙ sym (ap (λ (o : Option EventId). Some (with_cause (told (count causes) o) place)) is)
-        by_first (Some x) is =
-            ap (λ (o : Option EventId). told (count causes + 1) (option_or o (Some place))) is
-            ∙ sym (ap (λ (o : Option EventId). Some (with_cause (told (count causes) o) place)) is)
+        let places = places_with causes key in
+        ap group_at (places_more causes ∙ ap (λ (b : Bool). places ++ (if b then place ∷ [] else [])) same) ∙ group_at-more places
 
 -- the groups of one cause more
-module _ (k : GroupKey) (place : EventId) (causes : KeyedCauses) (groups next : Groups) (are : AreGroups causes groups) where
+module _ (k : GroupKey) (place : CausePlace) (causes : KeyedCauses) (groups next : Groups) (are : AreGroups causes groups) where
   abbrev grown : CauseGroup
   grown = with_cause (lookup (is_same_key k) groups) place
 
@@ -298,10 +276,15 @@ module _ (k : GroupKey) (place : EventId) (causes : KeyedCauses) (groups next : 
     all = ap total is ∙ total_more k place groups ∙ ap (λ (n : ℕ). n + 1) are.all ∙ sym (length-append causes ((k, place) ∷ []));
   }
 
--- without a key nothing is added
-pub none_keyed : (e : ℕ) (key : Option GroupKey) → ((k : GroupKey) → key ≡ Some k → ⊥) → keyed e key ≡ []
-none_keyed e None none = refl
-none_keyed e (Some k) none = absurd (none k refl)
+-- without a cause nothing is added
+pub none_listed : (cause : Option KeyedCause) → ((c : KeyedCause) → cause ≡ Some c → ⊥) → option_to_list cause ≡ []
+none_listed None none = refl
+none_listed (Some c) none = absurd (none c refl)
+
+-- an event by the position that it has
+pub id_of-place_of : (event : Option EventId) → id_of (place_of event) ≡ event
+id_of-place_of None = refl
+id_of-place_of (Some d) = refl
 
 -- no groups of no causes
 pub no_groups : (groups : Groups) → groups ≡ [] → AreGroups [] groups
@@ -315,8 +298,8 @@ five_more causes a b c d e groups are =
     (append_assoc (((causes ++ a) ++ b) ++ c) d e ∙ append_assoc ((causes ++ a) ++ b) c (d ++ e) ∙ append_assoc (causes ++ a) b (c ++ (d ++ e))
     ∙ append_assoc causes a (b ++ (c ++ (d ++ e)))) are
 
-pub none_begin : (n : ℕ) (groups : Groups) → groups ≡ [] → BeginBefore n groups
-none_begin n groups none = subst (BeginBefore n) (sym none) (All-nil (λ (group : GroupKey × CauseGroup). group.1.first.0 < n))
+pub none_name : (n : ℕ) (groups : Groups) → groups ≡ [] → NameBefore n groups
+none_name n groups none = subst (NameBefore n) (sym none) (All-nil (λ (group : GroupKey × CauseGroup). NamesBefore n group.1))
 
 -- nothing is written if there are no rows
 pub appends_none : (a : Option (List ℕ)) → Appends a a (text_of [])

@@ -1,3 +1,5 @@
 pub mod GroupLaws
 pub mod GroupSteps
 pub mod GroupsSoFar
+mod Positions
+mod RowsOfGroups

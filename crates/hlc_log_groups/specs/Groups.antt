@@ -1,9 +1,9 @@
 -- The causes of a log in groups.
-use Rattle.std.specs.Prelude.{◌≡◌, ◌==◌, ◌&&◌, Bool, ℕ, ◌+◌, ◌<◌, All, List, [], ◌∷◌, ◌++◌, Option, Some, None, codes, count_by, fold, if◌then◌else◌, length, option_map, slice_index_or, sum_by}
+use Rattle.std.specs.Prelude.{◌≡◌, ◌==◌, ◌&&◌, Bool, ℕ, ◌+◌, ◌<◌, All, List, [], ◌∷◌, ◌++◌, Option, Some, None, codes, IfSome, filter, fold, if◌then◌else◌, is_some, length, map, option_map, slice_get, slice_index_or, sum_by}
 use Rattle.std.specs.Bool.{then_some}
 use Rattle.std.specs.List.{flat_map, list_any}
 use Rattle.std.specs.Map.{keys_of, lookup}
-use Rattle.std.specs.Option.{option_eq}
+use Rattle.std.specs.Option.{option_eq, option_or, option_to_list}
 use denote.Enum.Bare.{sameb}
 use Rattle.hlc_stamp.specs.declared.id.EventId.{EventId}
 use Rattle.hlc_causality.specs.Places.{places_below}
@@ -18,6 +18,7 @@ use Rattle.hlc_log_groups.specs.contracts.broken_rule.BrokenRule.{the_type}
 use Rattle.hlc_log_groups.specs.declared.broken_rule.BrokenRule.{BrokenRule}
 use Rattle.hlc_log_groups.specs.declared.broken_rule.BrokenRule.TheVariants as rule
 use Rattle.hlc_log_groups.specs.declared.cause_group.CauseGroup.{CauseGroup}
+use Rattle.hlc_log_groups.specs.declared.cause_place.CausePlace.{CausePlace}
 use Rattle.hlc_log_groups.specs.declared.group_key.GroupKey.{GroupKey}
 
 -- the word of a rule, as the rows of causes have it
@@ -35,23 +36,40 @@ is_same_rule = sameb the_type
 abbrev pub is_same_key : GroupKey → GroupKey → Bool
 is_same_key a b = (a.node.0 == b.node.0) && (is_same_rule a.rule b.rule && option_eq (λ x y. x.0 == y.0) a.of b.of)
 
--- causes, each by the key of its group and by the place of its event
+-- a cause, by the key of its group and by where it stands
+abbrev pub KeyedCause : Type 0
+KeyedCause = GroupKey × CausePlace
+
+-- some causes
 abbrev pub KeyedCauses : Type 0
-KeyedCauses = List (GroupKey × EventId)
+KeyedCauses = List KeyedCause
 
 -- groups by their keys
 abbrev pub Groups : Type 0
 Groups = List (GroupKey × CauseGroup)
 
--- a group with one cause more, which stands at a place; or one that has this cause alone
-abbrev pub with_cause : Option CauseGroup → (place : EventId) → CauseGroup
-with_cause None place = record { causes = 1; first = place }
-with_cause (Some group) place = record group { causes = group.causes + 1 }
+-- a group with one cause more, which stands at a place, and is kept if it is one of the first three; or one that has this cause alone
+abbrev pub with_cause : Option CauseGroup → CausePlace → CauseGroup
+with_cause None place = record { causes = 1; first = place; second = None; third = None }
+with_cause (Some group) place = record {
+  causes = group.causes + 1;
+  first = group.first;
+  second = option_or group.second (Some place);
+  third = if is_some group.second then option_or group.third (Some place) else None;
+}
 
--- what the group of a key has of some causes: how many have the key, and where the first of them stands; None if none has it
+-- where the causes of a key stand
+abbrev pub places_with : KeyedCauses → GroupKey → List CausePlace
+places_with causes key = map (λ cause. cause.1) (filter (λ cause. is_same_key key cause.0) causes)
+
+-- the group of causes that stand at some places: how many they are, and the first three; None if there are none
+abbrev pub group_at : List CausePlace → Option CauseGroup
+group_at [] = None
+group_at (first ∷ more) = Some (record { causes = length (first ∷ more); first = first; second = slice_get more 0; third = slice_get more 1 })
+
+-- what the group of a key has of some causes
 abbrev pub group_of : KeyedCauses → GroupKey → Option CauseGroup
-group_of causes key =
-    option_map (λ first. record { causes = count_by (λ cause. is_same_key key cause.0) causes; first = first }) (lookup (is_same_key key) causes)
+group_of causes key = group_at (places_with causes key)
 
 -- a key more, if it isn't there
 abbrev pub with_key : List GroupKey → GroupKey → List GroupKey
@@ -72,29 +90,39 @@ pub record AreGroups (causes : KeyedCauses) (groups : Groups) : Type 0 where
   pub each : (key : GroupKey) → lookup (is_same_key key) groups ≡ group_of causes key
   pub all : total groups ≡ length causes
 
--- the first cause of each group stands at one of the first n places
-abbrev pub BeginBefore : (n : ℕ) → Groups → Type 0
-BeginBefore n groups = All (λ group. group.1.first.0 < n) groups
+-- a cause names events that are among the first n: its own, and the one with which its rule compares
+abbrev pub NamesEventsBefore : (n : ℕ) → CausePlace → Type 0
+NamesEventsBefore n place = (place.event.0 < n) × IfSome place.compared (λ d. d.0 < n)
 
--- the key of a cause at a place of a log, by the rule that is broken, and by the position of the event whose stamp the rule compares with, if it
--- compares with that of an event
-abbrev pub key_at : LogInOrder → (e : ℕ) → BrokenRule → (of : Option ℕ) → GroupKey
-key_at log e broken of =
-    record { node = (event_at log.events e).node; rule = broken; of = option_map (λ d. (event_in_order log.events log.order d).node) of }
+-- so do the first three causes of a group
+pub record NamesBefore (n : ℕ) (group : CauseGroup) : Type 0 where
+  pub first : NamesEventsBefore n group.first
+  pub second : IfSome group.second (NamesEventsBefore n)
+  pub third : IfSome group.third (NamesEventsBefore n)
 
--- the cause of this key at a place, if there is one
-abbrev pub keyed : (e : ℕ) → Option GroupKey → KeyedCauses
-keyed e None = []
-keyed e (Some key) = (key, record { 0 = e }) ∷ []
+-- so do those of each group
+abbrev pub NameBefore : (n : ℕ) → Groups → Type 0
+NameBefore n groups = All (λ group. NamesBefore n group.1) groups
+
+-- a cause at a place of a log, by the rule that is broken, and by the event whose stamp the rule compares with, if it compares with that of an event
+abbrev pub cause_at : LogInOrder → (e : ℕ) → BrokenRule → (compared : Option EventId) → KeyedCause
+cause_at log e broken compared = (
+  record { node = (event_at log.events e).node; rule = broken; of = option_map (λ d. (event_in_order log.events log.order d.0).node) compared },
+  record { event = record { 0 = e }; compared = compared },
+)
+
+-- an event by its position, if there is one
+abbrev pub id_of : Option ℕ → Option EventId
+id_of position = option_map (λ k. record { 0 = k }) position
 
 -- the causes at a place of a log: one for each rule that its event breaks, and one if its message carried another stamp than its send
 abbrev pub keyed_at : LogInOrder → (e : ℕ) → Causes → KeyedCauses
 keyed_at log e causes =
-    keyed e (then_some causes.behind (key_at log e rule.Behind None))
-    ++ (keyed e (option_map (λ d. key_at log e rule.NotAbove (Some d.0)) causes.not_above_previous)
-    ++ (keyed e (option_map (λ d. key_at log e rule.NotAbove (Some d.0)) causes.not_above_send)
-    ++ (keyed e (option_map (λ p. key_at log e rule.Ahead (followed_in log (index_in log.order e))) causes.ahead)
-    ++ keyed e (option_map (λ d. key_at log e rule.Carried (Some d)) (wrong_at log e)))))
+    option_to_list (then_some causes.behind (cause_at log e rule.Behind None))
+    ++ (option_to_list (option_map (λ d. cause_at log e rule.NotAbove (Some d)) causes.not_above_previous)
+    ++ (option_to_list (option_map (λ d. cause_at log e rule.NotAbove (Some d)) causes.not_above_send)
+    ++ (option_to_list (option_map (λ p. cause_at log e rule.Ahead (id_of (followed_in log (index_in log.order e)))) causes.ahead)
+    ++ option_to_list (option_map (λ d. cause_at log e rule.Carried (Some d)) (id_of (wrong_at log e))))))
 
 -- those of the first n events, in the order of the lines
 abbrev pub keyed_in : LogInOrder → (n : ℕ) → List Causes → KeyedCauses

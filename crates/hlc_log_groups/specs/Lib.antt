@@ -1,3 +1,4 @@
+pub mod ComparedStamps
 pub mod Followed
 pub mod GroupRows
 pub mod Groups

@@ -59,7 +59,7 @@ fn previous_of(log: &OrderedLog, position: EventId) -> Option<EventId>
 }
 
 // Where the send stands of what the event at a position receives.
-fn send_of(log: &OrderedLog, position: EventId) -> Option<EventId>
+pub(crate) fn send_of(log: &OrderedLog, position: EventId) -> Option<EventId>
     requires ordered { IsInOrder log.now }
     requires exists { position.0 < length log.now.events }
     ensures value { place_of result ≡ send_of (clock_skeleton (clocks_of log.now)) position.0 }
@@ -69,7 +69,7 @@ fn send_of(log: &OrderedLog, position: EventId) -> Option<EventId>
 }
 
 // The stamps that are claimed, as the event at a position saw them, which receives what this send sends.
-fn seen_of<'a>(
+pub(crate) fn seen_of<'a>(
     log: &'a OrderedLog,
     position: EventId,
     send: Option<EventId>,

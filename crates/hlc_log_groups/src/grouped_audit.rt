@@ -9,6 +9,7 @@ ghost use Rattle.hlc_log_text.specs.StampForms.{greatest_c};
 ghost use Rattle.hlc_log_audit.specs.Audit.{AreRowsTold, IsOutcome, TellsEvents, all_asked};
 ghost use Rattle.hlc_log_groups.specs.GroupRows.{AreGroupRowsIf, IsGroupedAudit};
 
+use crate::group_detail::GroupDetail;
 use crate::group_rows::write_groups;
 use hlc_csv::{OutputFault, RecordsFault};
 use hlc_log_audit::{AuditRules, Audited, Outcome, audit_opened};
@@ -18,29 +19,29 @@ use hlc_stamp::MAX_CAPACITY;
 use std::alloc::Global;
 use std::io::{Read, Write};
 
-// Writes the rows that tell of a log that was opened by these rules, and then those of the groups of its causes, if they are to be told.
+// Writes the rows that tell of a log that was opened by these rules, and then what is to be told of the groups of its causes.
 fn audit_opened_grouped<W: Write>(
     alloc: Global,
     log: &OpenLog,
     rules: AuditRules,
-    grouped: bool,
+    told: GroupDetail,
     asked: &[LogQuestion],
     key: NameKey,
     writer: &mut W,
 ) -> Result<Audited, OutputFault>
     requires { log.now.full ≡ greatest_c rules.records.form }
-    ensures told { IfOk result (λ audited. (between : Option (List ℕ)) × (told : List Fields) × (groups : List Fields)
-        × AreRowsTold log.now rules (all_asked log.now.questions asked.now) told × Appends (W.contents writer.old) between (text_of told)
-        × IsOutcome rules log.now.log audited.outcome × AreGroupRowsIf grouped log.now groups
+    ensures told { IfOk result (λ audited. (between : Option (List ℕ)) × (rows : List Fields) × (groups : List Fields)
+        × AreRowsTold log.now rules (all_asked log.now.questions asked.now) rows × Appends (W.contents writer.old) between (text_of rows)
+        × IsOutcome rules log.now.log audited.outcome × AreGroupRowsIf told log.now groups
         × Appends between (W.contents writer.new) (text_of groups)) }
     ensures counted { IfOk result (λ audited. audited.events ≡ length log.now.log.events) }
 {
     let audited = audit_opened(alloc, log, rules, asked, writer)?;
-    write_groups(alloc, log, grouped, key, writer)?;
+    write_groups(alloc, log, told, key, writer)?;
     Ok(audited)
 }
 
-/// Audits a log as `hlc_log_audit::audit_run` does, and then writes the rows of the groups of its causes, if they are to be told.
+/// Audits a log as `hlc_log_audit::audit_run` does, and then writes the rows that tell so much of the groups of its causes.
 ///
 /// The groups are those of the whole log, whether its report is written or not. Of input that is no log none are told.
 pub fn audit_with_groups<R: Read + Drop, W: Write>(
@@ -48,11 +49,11 @@ pub fn audit_with_groups<R: Read + Drop, W: Write>(
     reader: R,
     writer: &mut W,
     rules: AuditRules,
-    grouped: bool,
+    told: GroupDetail,
     asked: &[LogQuestion],
     key: NameKey,
 ) -> Result<Audited, RecordsFault>
-    ensures audited { IfOk result (λ audited. IsGroupedAudit rules grouped asked.now
+    ensures audited { IfOk result (λ audited. IsGroupedAudit rules told asked.now
         (R.remaining reader) (W.contents writer.old) (W.contents writer.new) audited.outcome) }
     ensures counted { IfOk result (TellsEvents rules.records MAX_CAPACITY (R.remaining reader)) }
     ensures read { IsErrOf result RecordsFault.Read → writer.new ≡ writer.old }
@@ -60,7 +61,7 @@ pub fn audit_with_groups<R: Read + Drop, W: Write>(
     ensures nothing { IsErrOf result RecordsFault.TooLong → writer.new ≡ writer.old }
 {
     match open_log(alloc, reader, rules.records, MAX_CAPACITY, key) {
-        Ok(log) => Ok(audit_opened_grouped(alloc, &log, rules, grouped, asked, key, writer)?),
+        Ok(log) => Ok(audit_opened_grouped(alloc, &log, rules, told, asked, key, writer)?),
         Err(OpenFault::Bad(bad)) => {
             tell_bad(alloc, &bad, writer)?;
             Ok(Audited {

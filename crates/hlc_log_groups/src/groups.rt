@@ -1,14 +1,15 @@
-ghost use Rattle.std.specs.Prelude.{◌≡◌, ◌+◌, ◌-◌, ◌^◌, ◌++◌, ◌<◌, ◌≤◌, ℕ, IfOk, IfSome, None, OnOk, Option, Some, length, option_map};
+ghost use Rattle.std.specs.Prelude.{◌≡◌, ◌+◌, ◌-◌, ◌^◌, ◌++◌, ◌<◌, ◌≤◌, ℕ, IfOk, IfSome, None, OnOk, Some, length, option_map, option_to_list};
 ghost use Rattle.std.specs.Bool.{then_some};
 ghost use Rattle.hlc_causality.specs.Neighbours.{place_of};
 ghost use Rattle.hlc_log.specs.OrderSkeleton.{index_in};
 ghost use Rattle.hlc_log_report.specs.InOrder.{IsInOrder, event_in_order};
 ghost use Rattle.hlc_log_audit.specs.Report.{NameEvents, wrong_at};
 ghost use Rattle.hlc_log_groups.specs.Followed.{followed_in};
-ghost use Rattle.hlc_log_groups.specs.Groups.{AreGroups, AreGroupsOf, BeginBefore, KeyedCauses, key_at, keyed, keyed_at, total, with_cause};
+ghost use Rattle.hlc_log_groups.specs.Groups.{AreGroups, AreGroupsOf, KeyedCauses, NameBefore, NamesEventsBefore, cause_at, id_of, keyed_at, total, with_cause};
 
 use crate::broken_rule::BrokenRule;
 use crate::cause_group::CauseGroup;
+use crate::cause_place::CausePlace;
 use crate::following::followed;
 use crate::group_key::GroupKey;
 use hlc_causes::Causes;
@@ -20,7 +21,7 @@ use indexmap::IndexMap;
 use std::alloc::{AllocError, Global};
 
 // A group with one cause more, which stands at a place; or one that has this cause alone.
-fn with_cause(group: Option<CauseGroup>, place: EventId) -> CauseGroup
+fn with_cause(group: Option<CauseGroup>, place: CausePlace) -> CauseGroup
     requires { IfSome group (λ group. group.causes < 2 ^ 32 - 1) }
     ensures { result ≡ with_cause group place }
 {
@@ -28,27 +29,34 @@ fn with_cause(group: Option<CauseGroup>, place: EventId) -> CauseGroup
         None => CauseGroup {
             causes: 1,
             first: place,
+            second: None,
+            third: None,
         },
         Some(group) => CauseGroup {
             causes: group.causes + 1,
-            ..group
+            first: group.first,
+            second: group.second.or(Some(place)),
+            third: match group.second {
+                Some(_) => group.third.or(Some(place)),
+                None => None,
+            },
         },
     }
 }
 
-// Adds the cause of this key at a place, if there is one.
+// Adds a cause, if there is one.
 fn add_cause(
     groups: &mut IndexMap<GroupKey, CauseGroup, NameKey>,
-    key: Option<GroupKey>,
-    place: EventId,
+    cause: Option<(GroupKey, CausePlace)>,
 ) -> Result<(), AllocError>
     requires few { total groups.old.entries < 2 ^ 32 - 1 }
     ensures added { OnOk result ((causes : KeyedCauses) → AreGroups causes groups.old.entries
-        → AreGroups (causes ++ keyed place.0 key) groups.new.entries) }
+        → AreGroups (causes ++ option_to_list cause) groups.new.entries) }
     ensures total { OnOk result (total groups.new.entries ≤ total groups.old.entries + 1) }
-    ensures places { OnOk result ((n : ℕ) → place.0 < n → BeginBefore n groups.old.entries → BeginBefore n groups.new.entries) }
+    ensures places { OnOk result ((n : ℕ) → IfSome cause (λ c. NamesEventsBefore n c.1) → NameBefore n groups.old.entries
+        → NameBefore n groups.new.entries) }
 {
-    let Some(key) = key else {
+    let Some((key, place)) = cause else {
         return Ok(());
     };
     let group = with_cause(groups.get(&key).copied(), place);
@@ -59,7 +67,7 @@ fn add_cause(
 // The node of the event at a position, if there is one.
 fn node_of(log: &OrderedLog, event: Option<EventId>) -> Option<NodeId>
     requires { IfSome event (λ d. d.0 < length log.now.events) }
-    ensures { result ≡ option_map (λ d. (event_in_order log.now.events log.now.order d).node) (place_of event) }
+    ensures { result ≡ option_map (λ d. (event_in_order log.now.events log.now.order d.0).node) event }
 {
     match event {
         Some(position) => Some(log.event(position).node),
@@ -67,66 +75,77 @@ fn node_of(log: &OrderedLog, event: Option<EventId>) -> Option<NodeId>
     }
 }
 
-// The key of a cause at a place, by the rule, and by the event whose stamp it compares with.
-fn key_at(log: &OrderedLog, place: EventId, rule: BrokenRule, of: Option<EventId>) -> GroupKey
+// A cause at a place, by the rule, and by the event whose stamp it compares with.
+fn cause_at(
+    log: &OrderedLog,
+    place: EventId,
+    rule: BrokenRule,
+    compared: Option<EventId>,
+) -> (GroupKey, CausePlace)
     requires exists { place.0 < length log.now.events }
-    requires event { IfSome of (λ d. d.0 < length log.now.events) }
-    ensures { result ≡ key_at log.now place.0 rule (place_of of) }
+    requires event { IfSome compared (λ d. d.0 < length log.now.events) }
+    ensures { result ≡ cause_at log.now place.0 rule compared }
 {
-    GroupKey {
+    let key = GroupKey {
         node: log.at(place).node,
         rule,
-        of: node_of(log, of),
-    }
+        of: node_of(log, compared),
+    };
+    let place = CausePlace {
+        event: place,
+        compared,
+    };
+    (key, place)
 }
 
-// The key of a stamp that is behind, if it is.
-fn behind_key(log: &OrderedLog, place: EventId, behind: bool) -> Option<GroupKey>
+// The cause of a stamp that is behind, if it is.
+fn behind_cause(log: &OrderedLog, place: EventId, behind: bool) -> Option<(GroupKey, CausePlace)>
     requires { place.0 < length log.now.events }
-    ensures { result ≡ then_some behind (key_at log.now place.0 BrokenRule.Behind None) }
+    ensures value { result ≡ then_some behind (cause_at log.now place.0 BrokenRule.Behind None) }
+    ensures exists { IfSome result (λ c. NamesEventsBefore (length log.now.events) c.1) }
 {
     if behind {
-        Some(key_at(log, place, BrokenRule::Behind, None))
+        Some(cause_at(log, place, BrokenRule::Behind, None))
     } else {
         None
     }
 }
 
-// The key of a stamp that isn't above that of a direct predecessor, if it isn't.
-fn not_above_key(log: &OrderedLog, place: EventId, direct: Option<EventId>) -> Option<GroupKey>
+// The cause of a stamp that isn't above that of a direct predecessor, if it isn't, or whose message wasn't as its send claims.
+fn compared_cause(
+    log: &OrderedLog,
+    place: EventId,
+    rule: BrokenRule,
+    direct: Option<EventId>,
+) -> Option<(GroupKey, CausePlace)>
     requires exists { place.0 < length log.now.events }
     requires event { IfSome direct (λ d. d.0 < length log.now.events) }
-    ensures { result ≡ option_map (λ d. key_at log.now place.0 BrokenRule.NotAbove (Some d.0)) direct }
+    ensures value { result ≡ option_map (λ d. cause_at log.now place.0 rule (Some d)) direct }
+    ensures exists { IfSome result (λ c. NamesEventsBefore (length log.now.events) c.1) }
 {
     match direct {
-        Some(direct) => Some(key_at(log, place, BrokenRule::NotAbove, Some(direct))),
+        Some(direct) => Some(cause_at(log, place, rule, Some(direct))),
         None => None,
     }
 }
 
-// The key of a stamp that is ahead of the rule's, if it is: the rule compares with the event that its own stamp follows.
-fn ahead_key(log: &OrderedLog, place: EventId, least: Option<Stamp>) -> Option<GroupKey>
+// The cause of a stamp that is ahead of the rule's, if it is: the rule compares with the event that its own stamp follows.
+fn ahead_cause(
+    log: &OrderedLog,
+    place: EventId,
+    least: Option<Stamp>,
+) -> Option<(GroupKey, CausePlace)>
     requires ordered { IsInOrder log.now }
     requires exists { place.0 < length log.now.events }
-    ensures { result ≡ option_map (λ p. key_at log.now place.0 BrokenRule.Ahead (followed_in log.now (index_in log.now.order place.0))) least }
+    ensures value { result ≡ option_map
+        (λ p. cause_at log.now place.0 BrokenRule.Ahead (id_of (followed_in log.now (index_in log.now.order place.0)))) least }
+    ensures exists { IfSome result (λ c. NamesEventsBefore (length log.now.events) c.1) }
 {
     match least {
         Some(_) => {
             let before = followed(log, log.position(place));
-            Some(key_at(log, place, BrokenRule::Ahead, before))
+            Some(cause_at(log, place, BrokenRule::Ahead, before))
         }
-        None => None,
-    }
-}
-
-// The key of a message that carried another stamp than its send, if it did.
-fn carried_key(log: &OrderedLog, place: EventId, send: Option<EventId>) -> Option<GroupKey>
-    requires exists { place.0 < length log.now.events }
-    requires event { IfSome send (λ d. d.0 < length log.now.events) }
-    ensures { result ≡ option_map (λ d. key_at log.now place.0 BrokenRule.Carried (Some d)) (place_of send) }
-{
-    match send {
-        Some(send) => Some(key_at(log, place, BrokenRule::Carried, Some(send))),
         None => None,
     }
 }
@@ -148,18 +167,18 @@ fn add_causes(
     ensures added { OnOk result ((causes : KeyedCauses) → AreGroups causes groups.old.entries
         → AreGroups (causes ++ keyed_at log.now place.0 found) groups.new.entries) }
     ensures total { OnOk result (total groups.new.entries ≤ total groups.old.entries + 5) }
-    ensures places { OnOk result ((n : ℕ) → place.0 < n → BeginBefore n groups.old.entries → BeginBefore n groups.new.entries) }
+    ensures places { OnOk result (NameBefore (length log.now.events) groups.old.entries → NameBefore (length log.now.events) groups.new.entries) }
 {
-    let behind = behind_key(log, place, found.behind);
-    let previous = not_above_key(log, place, found.not_above_previous);
-    let send = not_above_key(log, place, found.not_above_send);
-    let ahead = ahead_key(log, place, found.ahead);
-    let carried = carried_key(log, place, wrong);
-    add_cause(groups, behind, place)?;
-    add_cause(groups, previous, place)?;
-    add_cause(groups, send, place)?;
-    add_cause(groups, ahead, place)?;
-    add_cause(groups, carried, place)
+    let behind = behind_cause(log, place, found.behind);
+    let previous = compared_cause(log, place, BrokenRule::NotAbove, found.not_above_previous);
+    let send = compared_cause(log, place, BrokenRule::NotAbove, found.not_above_send);
+    let ahead = ahead_cause(log, place, found.ahead);
+    let carried = compared_cause(log, place, BrokenRule::Carried, wrong);
+    add_cause(groups, behind)?;
+    add_cause(groups, previous)?;
+    add_cause(groups, send)?;
+    add_cause(groups, ahead)?;
+    add_cause(groups, carried)
 }
 
 /// The groups of the causes of a log, by what the causes of each have in common, in the order of the first cause of each. Causes stand in the
@@ -174,7 +193,7 @@ pub fn groups_of(
     key: NameKey,
 ) -> Result<IndexMap<GroupKey, CauseGroup, NameKey>, AllocError>
     ensures groups { IfOk result (λ groups. AreGroupsOf log.now full groups.entries) }
-    ensures places { IfOk result (λ groups. BeginBefore (length log.now.events) groups.entries) }
+    ensures places { IfOk result (λ groups. NameBefore (length log.now.events) groups.entries) }
 {
     let mut groups = IndexMap::with_hasher(alloc, key);
     for place in 0..log.len() {

@@ -3,6 +3,7 @@ use Rattle.std.specs.Prelude.{◌≡◌, ℕ, List, Option, false, length, optio
 use Rattle.hlc_causality.specs.declared.receives.Receives.TheVariants.{Tick}
 use Rattle.hlc_causes.specs.declared.answers.Finding.{Finding}
 use Rattle.hlc_diagram.specs.Content.{Content}
+use Rattle.hlc_diagram.specs.CutLabel.{cut_text}
 use Rattle.hlc_diagram.specs.Label.{label_text}
 use Rattle.hlc_diagram.specs.ChainPicture.{ChainPicture, chain_picture_of}
 use Rattle.hlc_diagram.specs.Picture.{Picture, picture_of}
@@ -26,7 +27,8 @@ use Rattle.hlc_log_picture.specs.Looks.{look_of}
 use Rattle.hlc_log_picture.specs.SharedDigits.{first_digits_of}
 use Rattle.hlc_log_picture.specs.StampOrder.{IsInStampOrder}
 use Rattle.hlc_log_picture.specs.declared.event_finding.EventFinding.{EventFinding}
-use Rattle.hlc_log_picture.specs.declared.cells.TheConstants.{NAME_ROOM}
+use Rattle.hlc_svg.specs.declared.frame.TheConstants.{NAME_ROOM}
+use Rattle.hlc_log_picture.specs.declared.cells.TheConstants.{WHOLE_ROOM}
 use Rattle.hlc_log_picture.specs.declared.places.TheConstants.{FILE_ROOM}
 
 -- a log to be drawn: its events in the order of the rows, with the files in which their records stand, the names of the nodes, the labels, and a finding
@@ -73,7 +75,8 @@ content_of drawn = record {
   events = skeleton_of drawn.log;
   stamps = drawn.log.least;
   legend = legend_text;
-  name = λ node. label_text NAME_ROOM (name_of drawn.nodes node);
+  whole_name = λ node. label_text WHOLE_ROOM (name_of drawn.nodes node);
+  name = λ node. cut_text NAME_ROOM (name_of drawn.nodes node);
   number = line_in drawn.log;
   shown = λ k. (location_of_row drawn k).line;
   event = λ k. location_label (location_of_row drawn k);

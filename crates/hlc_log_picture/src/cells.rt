@@ -19,8 +19,8 @@ least, and the label. An unstamped event has the stamp that the rule gives. The 
 behind its clock; a box: not above an event before it; leaning: low; pointed above: ahead; a hexagon: carried. A ring: the clock rule \
 was broken there, or the message carried another stamp than its send claims.";
 
-// How many characters of a node's name and of a label are shown at most.
-pub(crate) const NAME_ROOM: u16 = 12;
+// How many characters of the whole name of a node are told at most, and of a label.
+pub(crate) const WHOLE_ROOM: u16 = u16::MAX;
 
 pub(crate) const LABEL_ROOM: u16 = 40;
 

@@ -3,13 +3,13 @@ ghost use Rattle.hlc_log_report.specs.InOrder.{IsInOrder, line_in};
 ghost use Rattle.hlc_log_picture.specs.Drawn.{finding_of_row, label_of_row};
 ghost use Rattle.hlc_log_picture.specs.Judged.{AreEventFindings};
 
-use crate::cells::{LEGEND, NAME_ROOM, cell_width, put_cell, put_fact, put_heading};
+use crate::cells::{LEGEND, WHOLE_ROOM, cell_width, put_cell, put_fact, put_heading};
 use crate::event_finding::{EventFinding, findings};
 use crate::look::look_of;
 use crate::places::{put_location, shown_line};
 use crate::shared_digits::first_digits;
 use hlc_causes::Finding;
-use hlc_diagram::{FirstDigits, Look, Subject, View, put_label};
+use hlc_diagram::{FirstDigits, Look, NAME_ROOM, Subject, View, put_cut_label, put_label};
 use hlc_execution::Execution;
 use hlc_log_report::OrderedLog;
 use hlc_log_text::{Files, Names, node_name};
@@ -179,8 +179,12 @@ impl<'a> Subject for PicturedLog<'a> {
         text.push_str(LEGEND)
     }
 
+    fn put_whole_name(&self, text: &mut String, node: NodeId) -> Result<(), AllocError> {
+        put_label(text, node_name(self.nodes, node), WHOLE_ROOM)
+    }
+
     fn put_name(&self, text: &mut String, node: NodeId) -> Result<(), AllocError> {
-        put_label(text, node_name(self.nodes, node), NAME_ROOM)
+        put_cut_label(text, node_name(self.nodes, node), NAME_ROOM)
     }
 
     fn number(&self, event: EventId) -> u32 {

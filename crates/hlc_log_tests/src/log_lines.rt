@@ -103,8 +103,8 @@ fn expect_name(rt: &impl Abort, names: &Names, number: usize, name: &[u8]) {
 fn expect_names(rt: &impl Abort, text: &LogText) {
     let last = text.log.get(EventId(2)).expect(rt, "an event");
     assert!(rt; last.node == NodeId(0) && last.kind == LogKind::Receive(MessageId(0)));
-    assert!(rt; text.nodes.len() == 2);
-    expect_name(rt, &text.nodes, 1, b"a\r\nb");
+    assert!(rt; text.details.nodes().len() == 2);
+    expect_name(rt, text.details.nodes(), 1, b"a\r\nb");
     assert!(rt; text.messages == 2);
 }
 

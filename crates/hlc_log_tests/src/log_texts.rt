@@ -14,9 +14,10 @@ use std::process::Abort;
 // Questions before, between and after events, some of them of lines with no event.
 const QUESTIONS: &str = "explain,18446744073709551615\n\
     send,a,1,1,0,m\n\ncheck,2\nrelation,5,2\nreceive,b,2,2,0,m\n\
-    check,5,0,2\ninfluenced,2\ndrift,\"b\"\nclaimed,5\nevent,007\n";
+    check,5,0,2\ninfluenced,2\ndrift,\"b\"\nclaimed,5\nevent,007\n\
+    why,2,6\ntainted,2\nfirst,a,not-above\n";
 
-static ASKED: [&str; 8] = [
+static ASKED: [&str; 11] = [
     "Explain(Location { file: None, line: 18446744073709551615 })",
     "Check { event: Location { file: None, line: 2 }, chain: [] }",
     "Relation { first: Location { file: None, line: 5 }, second: Location { file: None, line: 2 } }",
@@ -25,10 +26,13 @@ static ASKED: [&str; 8] = [
     "Drift([98])",
     "Claimed(Location { file: None, line: 5 })",
     "Event(Location { file: None, line: 7 })",
+    "Why { first: Location { file: None, line: 2 }, second: Location { file: None, line: 6 } }",
+    "Tainted(Location { file: None, line: 2 })",
+    "First { node: [97], rule: NotAbove }",
 ];
 
 // Texts that are no logs: with the line of the first bad record, and why it is bad.
-static BAD_TEXTS: [(&[u8], u64, BadLog); 30] = [
+static BAD_TEXTS: [(&[u8], u64, BadLog); 36] = [
     // UTF-16, in both orders of bytes.
     (b"\xff\xfel\0o\0c\0a\0l\0,\0a\0", 1, BadLog::Word),
     (b"\xfe\xff\0l\0o\0c\0a\0l\0,\0a", 1, BadLog::Word),
@@ -53,6 +57,12 @@ static BAD_TEXTS: [(&[u8], u64, BadLog); 30] = [
     (b"check,1,2,-1\n", 1, BadLog::Line),
     (b"relation,1,b\n", 1, BadLog::Line),
     (b"drift,\n", 1, BadLog::Name(LogColumn::Node)),
+    (b"why,1\n", 1, BadLog::Fields),
+    (b"why,1,b\n", 1, BadLog::Line),
+    (b"tainted,1,2\n", 1, BadLog::Fields),
+    (b"first,a\n", 1, BadLog::Fields),
+    (b"first,a,low\n", 1, BadLog::Fields),
+    (b"first,,low\n", 1, BadLog::Name(LogColumn::Node)),
     // A quotation mark that nothing closes: in a label, in the last record, after a doubled one, in a name, and in a question.
     (
         b"local,a,1,1,0\n\nlocal,a,2,2,0,\"half a label\nlocal,a,3,3,0\nevent,1\n",
@@ -176,14 +186,14 @@ fn expect_question(rt: &impl Abort, alloc: Global, question: &LogQuestion, expec
 }
 
 fn expect_asked(rt: &impl Abort, alloc: Global, text: &LogText, asked: &[&str]) {
-    assert!(rt; text.questions.len() == asked.len());
-    for (question, expected) in text.questions.iter().zip(asked) {
+    assert!(rt; text.details.questions().len() == asked.len());
+    for (question, expected) in text.details.questions().iter().zip(asked) {
         expect_question(rt, alloc, question, expected);
     }
 }
 
 fn expect_label(rt: &impl Abort, text: &LogText, place: u32, label: Option<&[u8]>) {
-    assert!(rt; text.labels.get(EventId(place)) == label, "{place}");
+    assert!(rt; text.details.label(EventId(place)) == label, "{place}");
 }
 
 // A question, an event, and a file with a header and another event.
@@ -195,8 +205,8 @@ fn a_mark_begins_a_file(rt: HostRuntime) {
     let asked = "Event(Location { file: Some([98, 58, 99]), line: 2 })";
     expect_asked(&rt, rt.alloc(), &text, &[asked]);
     assert!(&rt; text.log.len() == 2);
-    assert!(&rt; text.files.mark_before(3).is_none());
-    let mark = text.files.mark_before(5).expect(&rt, "a mark");
+    assert!(&rt; text.details.files().mark_before(3).is_none());
+    let mark = text.details.files().mark_before(5).expect(&rt, "a mark");
     assert!(&rt; &mark.name[..] == b"b:c".as_slice() && mark.line == 3);
     drop(text);
 }
@@ -222,10 +232,10 @@ fn two_logs(alloc: Global) -> Result<Vec<u8>, AllocError> {
 fn logs_with_questions_follow_one_another(rt: HostRuntime) {
     let logs = two_logs(rt.alloc()).expect(&rt, "memory");
     let text = log_of(&rt, rt.alloc(), &logs);
-    let count = text.questions.len();
+    let count = text.details.questions().len();
     expect_label(&rt, &text, 2, Some(b"last"));
     drop(text);
-    assert!(rt; count == 9);
+    assert!(rt; count == 12);
 }
 
 #[test]

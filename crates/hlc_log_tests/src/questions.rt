@@ -12,7 +12,7 @@ const LOG: &str = "receive,b,9,11,1,m,heard\nlocal,b,10,11,2\nsend,b,10,11,3,n\n
     local,a,10,10,0,start\nsend,a,11,11,0,m\nreceive,a,11,11,4,n\nlocal,a,12,13,0\n";
 
 // Questions about it, and their answers.
-static QUESTIONS: [(&str, &str); 22] = [
+static QUESTIONS: [(&str, &str); 36] = [
     ("explain,7", "chain,7,11,4,6,1,2,3,7\n"),
     ("explain,8", "chain,8,12,0,8\n"),
     ("explain,9", "refused,no-event\n"),
@@ -35,6 +35,20 @@ static QUESTIONS: [(&str, &str); 22] = [
     ("event,1", "event,1,b,9,11,1,11,1,least,heard\n"),
     ("event,8", "event,8,a,12,13,0,12,0,ahead\n"),
     ("event,18446744073709551615", "refused,no-event\n"),
+    ("why,5,7", "path,5,7,5,6,7\n"),
+    ("why,5,3", "path,5,3,5,6,1,2,3\n"),
+    ("why,8,8", "path,8,8,8\n"),
+    ("why,7,5", "path,7,5,none\n"),
+    ("why,9,5", "refused,no-event\n"),
+    ("tainted,6", "tainted,6,1,2,3,6,7\n"),
+    ("tainted,5", "tainted,5,5\n"),
+    ("tainted,1", "tainted,1\n"),
+    ("tainted,9", "refused,no-event\n"),
+    ("first,a,ahead", "first,a,ahead,8\n"),
+    ("first,a,not-above", "first,a,not-above,none\n"),
+    ("first,b,ahead", "first,b,ahead,none\n"),
+    ("first,c,carried", "first,c,carried,none\n"),
+    ("first,d,behind", "refused,no-node\n"),
 ];
 
 // Logs whose questions are about the log itself, and their answers.
@@ -55,6 +69,20 @@ static SOURCES: [(&str, &str); 3] = [
     ),
 ];
 
+// Logs of which events break rules, and which of them is the first of its node to break one, in the node's own order.
+static BREAKING: [(&str, &str); 2] = [
+    (
+        "kind,node,reading,l,c,seq\nlocal,a,15,14,0,2\nlocal,a,10,9,0,1\nlocal,a,15,13,0,3\n\
+            first,a,behind\nfirst,a,not-above\nfirst,a,ahead\n",
+        "first,a,behind,3\nfirst,a,not-above,4\nfirst,a,ahead,none\n",
+    ),
+    (
+        "kind,node,reading,l,c,message,carried_l,carried_c\nsend,a,10,10,0,m,,\nreceive,b,5,10,1,m,9,0\n\
+            first,b,carried\nfirst,b,ahead\nfirst,a,carried\n",
+        "first,b,carried,3\nfirst,b,ahead,3\nfirst,a,carried,none\n",
+    ),
+];
+
 // Asks a question at the end of LOG.
 fn expect_answer(rt: &impl Abort, alloc: Global, question: &str, answer: &str) {
     let mut log = Vec::new(alloc);
@@ -71,6 +99,13 @@ fn answers_questions(rt: HostRuntime) {
     }
     for (log, rows) in &SOURCES {
         expect_report(&rt, rt.alloc(), log.as_bytes(), PAIRS, rows, Outcome::Sound);
+    }
+}
+
+#[test]
+fn tells_which_event_is_the_first_to_break_a_rule(rt: HostRuntime) {
+    for (log, rows) in &BREAKING {
+        expect_report(&rt, rt.alloc(), log.as_bytes(), PAIRS, rows, BROKEN);
     }
 }
 

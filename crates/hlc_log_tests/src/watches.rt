@@ -28,7 +28,7 @@ fn event(node: u16, line: u32, kind: LogKind, l: u64, c: u32) -> LogEvent
 fn ruled(event: &LogEvent) -> RuledEvent
     requires { IsSmallCarried event.now.carried }
 {
-    RuledEvent::new(Receives::Tick, event)
+    RuledEvent::new(Receives::Tick, 0, event)
 }
 
 // The receive comes first, and then an event of its node: it is judged by the event before it, and by its send.
@@ -51,7 +51,10 @@ fn receives_wait_for_their_sends(rt: HostRuntime) {
     assert!(&rt; complete.waited.len() == 1);
     let told = complete.waited[0].causes(u32::MAX);
     assert!(&rt; told.not_above_previous.is_none());
-    assert!(&rt; told.not_above_send == Some(4));
+    assert!(&rt;
+        told.not_above_send
+            .is_some_and(|line| line.file == 0 && line.number == 4)
+    );
     let ahead = complete.event.map(|records| records.causes(u32::MAX));
     assert!(&rt; ahead.is_some_and(|causes| causes.ahead == Some(Stamp { l: 5, c: 0 })));
 }

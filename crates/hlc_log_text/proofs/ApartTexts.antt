@@ -46,8 +46,8 @@ module _ (messages : ℕ) (senders : List (Option NodeId)) (raw : List LogEvent)
 pub length-told : (events : List NamedEvent) (text : LogText) → IsLogOf events text → length text.log.events ≡ length events
 length-told events text h =
     let names = message_names events in
-    ap length h.apart ∙ length-apart_if (length names) (senders_of text.nodes events) h.raw (unnamed_in names)
-    ∙ sym (length-map h.raw (with_names text.nodes names)) ∙ ap length h.told ∙ length-map events without_asides
+    ap length h.apart ∙ length-apart_if (length names) (senders_of text.details.nodes events) h.raw (unnamed_in names)
+    ∙ sym (length-map h.raw (with_names text.details.nodes names)) ∙ ap length h.told ∙ length-map events without_asides
 
 -- events on the same lines stand on rising ones together
 rising_same : (events others : List LogEvent) → map (λ (e : LogEvent). e.line) events ≡ map (λ (e : LogEvent). e.line) others

@@ -22,7 +22,7 @@ use Rattle.hlc_log_text.specs.FileMarks.{file_mark}
 use Rattle.hlc_log_text.specs.Labels.{GivesLabel, label_at}
 use Rattle.hlc_log_text.specs.LogItem.{Asks, Begins, Fails, LogItem, Names, Skips, Tells, bad_line, bad_lines_in, columns_then, event_lines, events_in, file_names_in, header_columns, if_asked, if_event, if_file, if_reason, is_at_start, is_telling, lines_where, marks_in, picked_in, questions_in, reasons_in}
 use Rattle.hlc_log_text.specs.LogText.{IsRawLogOf, IsNamed, IsRawTextOf, kind_message, message_names, node_names, record_count, sender_of_event, with_names}
-use Rattle.hlc_log_text.specs.PartialLog.{AreMarked, IsNextLine, IsPartialLog, last_of, mark_at, text_of, with_message}
+use Rattle.hlc_log_text.specs.PartialLog.{AreMarked, IsNextLine, IsPartialLog, details_with, last_of, mark_at, text_of, with_message}
 use Rattle.hlc_log_text.specs.NamedEvent.{NamedEvent, without_asides}
 use Rattle.hlc_log_text.specs.Question.{Asked, plain_asked}
 use Rattle.hlc_log_text.specs.Skipped.{is_skip, skip_count, skipped_count, skipped_in, skipped_on, with_skip}
@@ -182,15 +182,15 @@ length-items (Fails why ∷ items) = let rest = length-items items in omega arit
 
 pub length-log : (events : List NamedEvent) (text : LogText) → IsRawLogOf events text → length text.log.events ≡ length events
 length-log events text h =
-    sym (length-map text.log.events (with_names text.nodes (message_names events))) ∙ ap length h.told ∙ length-map events without_asides
+    sym (length-map text.log.events (with_names text.details.nodes (message_names events))) ∙ ap length h.told ∙ length-map events without_asides
 
 pub record_count-items : (items : List LogItem) (text : LogText) → IsRawTextOf items text → record_count text ≤ length items
 record_count-items items text h =
     let events = length-log (events_in items) text h.log in
-    let questions : length text.questions.items ≡ length (questions_in items) = sym (length-map text.questions.items plain_asked) ∙ ap length h.questions in
+    let questions : length text.details.questions ≡ length (questions_in items) = sym (length-map text.details.questions plain_asked) ∙ ap length h.questions in
     let skipped = h.skipped in
-    let left_out : length text.left_out.items ≡ length (reasons_in items) =
-    sym (length-map text.left_out.items (λ (b : BadLine). b.why)) ∙ ap length h.left_out in
+    let left_out : length text.details.left_out ≡ length (reasons_in items) =
+    sym (length-map text.details.left_out (λ (b : BadLine). b.why)) ∙ ap length h.left_out in
     let all = length-items items in
     omega arith
 
@@ -447,28 +447,18 @@ module _ (items : List LogItem) (lines : List ℕ) (old new : PartialLog) (item 
   abbrev other : LogText
   other = record {
     log = old.log;
-    nodes = old.nodes;
     message_names = old.messages;
     messages = length old.messages;
-    labels = old.labels;
-    questions = new.questions;
-    skipped = new.skipped;
-    left_out = new.left_out;
-    files = new.files;
+    details = record (details_with old.nodes new) { labels = old.labels };
   }
 
   is_other : text_of new ≡ other
   is_other =
       λ i. record {
         log = n.log i;
-        nodes = n.nodes i;
         message_names = n.messages i;
         messages = length (n.messages i);
-        labels = n.labels i;
-        questions = new.questions;
-        skipped = new.skipped;
-        left_out = new.left_out;
-        files = new.files;
+        details = record (details_with (n.nodes i) new) { labels = n.labels i };
       }
 
   log-other : IsRawLogOf (events_in items) other

@@ -72,7 +72,7 @@ module _ (events : List NamedEvent) (text : LogText) (h : IsLogOf events text) (
   none = none_unnamed events named
 
   pub log_is_raw : text.log.events ≡ h.raw
-  log_is_raw = h.apart ∙ ap (λ (unnamed : Option ℕ). apart_if unnamed (length names) (senders_of text.nodes events) h.raw) none
+  log_is_raw = h.apart ∙ ap (λ (unnamed : Option ℕ). apart_if unnamed (length names) (senders_of text.details.nodes events) h.raw) none
 
   pub messages_are : text.messages ≡ length names
   messages_are = h.messages ∙ ap (λ (unnamed : Option ℕ). apart_count unnamed (length names) (length h.raw)) none
@@ -80,15 +80,15 @@ module _ (events : List NamedEvent) (text : LogText) (h : IsLogOf events text) (
   few : text.messages ≤ length text.log.events
   few =
       let size : length h.raw ≡ length events =
-      sym (length-map h.raw (with_names text.nodes names)) ∙ ap length h.told ∙ length-map events without_asides in
+      sym (length-map h.raw (with_names text.details.nodes names)) ∙ ap length h.told ∙ length-map events without_asides in
       let all = messages_few events in
       let each = mentions_few (filter_map (λ (e : NamedEvent). e.message) events) in
       omega (arith, size, all, each, messages_are, ap length log_is_raw)
 
   pub is_as_read : IsRawLogOf events text
   is_as_read = record {
-    told = ap (map (with_names text.nodes names)) log_is_raw ∙ h.told;
-    named = subst (All (IsNamed text.nodes names)) (sym log_is_raw) h.named;
+    told = ap (map (with_names text.details.nodes names)) log_is_raw ∙ h.told;
+    named = subst (All (IsNamed text.details.nodes names)) (sym log_is_raw) h.named;
     nodes = h.nodes;
     messages = messages_are;
     few_nodes = h.few_nodes;

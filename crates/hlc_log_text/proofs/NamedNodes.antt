@@ -32,10 +32,10 @@ named_alike events others nodes same named k d lt =
     subst (λ (n : ℕ). n < length nodes) (sym is) (named k d within)
 
 -- so each event of a log that was read is of a node that has a name
-pub read_names : (events : List NamedEvent) (text : LogText) → IsLogOf events text → All (λ (e : LogEvent). e.node.0 < length text.nodes) text.log.events
+pub read_names : (events : List NamedEvent) (text : LogText) → IsLogOf events text → All (λ (e : LogEvent). e.node.0 < length text.details.nodes) text.log.events
 read_names events text h =
     let names = message_names events in
-    named_alike text.log.events h.raw text.nodes
+    named_alike text.log.events h.raw text.details.nodes
     (ap (λ (es : List LogEvent). map (λ (e : LogEvent). e.node.0) es) h.apart
-    ∙ nodes_apart_if (unnamed_in names) (length names) (senders_of text.nodes events) h.raw)
+    ∙ nodes_apart_if (unnamed_in names) (length names) (senders_of text.details.nodes events) h.raw)
     (λ k d lt. (h.named k d lt).0)

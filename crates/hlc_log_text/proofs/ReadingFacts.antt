@@ -366,7 +366,7 @@ in_range_of_whole rules most bytes text whole =
     let names = message_names (events_in whole.items) in
     let in_range = all_in_range rules whole.records whole.items whole.make in
     let plain = All-map IsNamedInRange without_asides (events_in whole.items) in_range in
-    let named = with_names text.nodes names in
+    let named = with_names text.details.nodes names in
     let told = subst (All IsNamedInRange) (sym log.told) plain in
     let each = each_from_map IsNamedInRange named log.raw told in
     let raw : All IsInRange log.raw =
@@ -379,7 +379,7 @@ in_range_of_whole rules most bytes text whole =
       told = λ is. (room_above e.kind e.stamp e.has_stamp in_range.0.1 is).1;
     }) log.raw each in
     subst (All IsInRange) (sym log.apart)
-    (in_range_apart_if (length names) (senders_of text.nodes (events_in whole.items)) log.raw (unnamed_in names) raw)
+    (in_range_apart_if (length names) (senders_of text.details.nodes (events_in whole.items)) log.raw (unnamed_in names) raw)
 
 -- what a log was read to, or why none was: it is so of whichever bytes the reader began with, so of these
 module _ (rules : LogRules) (most : ℕ) (bytes : Option (List ℕ)) (IsBegun : Option (List ℕ) → Type 0) (begun : IsBegun bytes) where
@@ -396,10 +396,10 @@ module _ (rules : LogRules) (most : ℕ) (bytes : Option (List ℕ)) (IsBegun : 
       let log = (reads bytes begun).held.log in
       let events = events_in (reads bytes begun).items in
       let names = message_names events in
-      let raw = numbered_of text.nodes names log.raw log.few_nodes log.named in
+      let raw = numbered_of text.details.nodes names log.raw log.few_nodes log.named in
       subst (λ (messages : ℕ). All (IsNumbered messages) text.log.events) (sym log.messages)
       (subst (All (IsNumbered (apart_count (unnamed_in names) (length names) (length log.raw)))) (sym log.apart)
-      (numbered_apart_if (length names) (senders_of text.nodes events) log.raw (unnamed_in names) raw))
+      (numbered_apart_if (length names) (senders_of text.details.nodes events) log.raw (unnamed_in names) raw))
   numbered_of_read (Err fault) reads = tt
 
   pub in_range_of_read : (read : Result LogText LogTextFault) → ReadsOrTells read → IfOk read (λ text. All IsInRange text.log.events)

@@ -1,6 +1,7 @@
 pub mod BadColumn
 pub mod BadLog
 pub mod BadRecords
+pub mod CauseWord
 pub mod Columns
 pub mod FaultRule
 pub mod FileMarks
@@ -8,6 +9,7 @@ pub mod Files
 pub mod Labels
 pub mod LineText
 pub mod LogColumn
+pub mod LogDetails
 pub mod LogHeader
 pub mod LogItem
 pub mod LogRules

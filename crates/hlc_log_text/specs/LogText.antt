@@ -73,23 +73,23 @@ sender_of_event events place = option_and_then (λ e. e.from) (slice_get events 
 -- the text has these events in their order as they were read, messages without a name being of one name, the empty one: each name has the number of
 -- its place, each label stands at its event's place, and lines rise
 pub record IsRawLogOf (events : List NamedEvent) (text : LogText) : Type 0 where
-  pub told : map (with_names text.nodes (message_names events)) text.log.events ≡ map without_asides events
-  pub named : All (IsNamed text.nodes (message_names events)) text.log.events
-  pub nodes : text.nodes ≡ node_names events
+  pub told : map (with_names text.details.nodes (message_names events)) text.log.events ≡ map without_asides events
+  pub named : All (IsNamed text.details.nodes (message_names events)) text.log.events
+  pub nodes : text.details.nodes ≡ node_names events
   pub messages : text.messages ≡ length (message_names events)
-  pub few_nodes : length text.nodes ≤ MAX_LOG_NODES
+  pub few_nodes : length text.details.nodes ≤ MAX_LOG_NODES
   pub few_messages : text.messages ≤ length text.log.events
-  pub labels : (place : ℕ) → label_at text.labels place ≡ label_of_event events place
+  pub labels : (place : ℕ) → label_at text.details.labels place ≡ label_of_event events place
   pub lines_rise : AllPairs (λ d e. d.line < e.line) text.log.events
 
 -- so it has the events that records tell of, the questions that they ask and the files that they begin, in their order, and knows how many were left
 -- out, and why
 pub record IsRawTextOf (items : List LogItem) (text : LogText) : Type 0 where
   pub log : IsRawLogOf (events_in items) text
-  pub questions : map plain_asked text.questions.items ≡ questions_in items
-  pub skipped : skipped_count text.skipped ≡ skip_count items
-  pub left_out : map (λ b. b.why) text.left_out.items ≡ reasons_in items
-  pub files : map (λ mark. mark.name) text.files ≡ file_names_in items
+  pub questions : map plain_asked text.details.questions ≡ questions_in items
+  pub skipped : skipped_count text.details.skipped ≡ skip_count items
+  pub left_out : map (λ b. b.why) text.details.left_out ≡ reasons_in items
+  pub files : map (λ mark. mark.name) text.details.files ≡ file_names_in items
 
 -- the node of a name among the names of a log's nodes, if it is one
 abbrev pub node_of : List (List ℕ) → Option (List ℕ) → Option NodeId
@@ -118,26 +118,26 @@ apart_count (Some n) messages count = messages + count
 -- the empty one; these were then told apart by who sent them with which stamp. Each label stands at its event's place, and lines rise
 pub record IsLogOf (events : List NamedEvent) (text : LogText) : Type 0 where
   pub raw : List LogEvent
-  pub told : map (with_names text.nodes (message_names events)) raw ≡ map without_asides events
-  pub named : All (IsNamed text.nodes (message_names events)) raw
-  pub apart : text.log.events ≡ apart_if (unnamed_in (message_names events)) (length (message_names events)) (senders_of text.nodes events) raw
-  pub nodes : text.nodes ≡ node_names events
+  pub told : map (with_names text.details.nodes (message_names events)) raw ≡ map without_asides events
+  pub named : All (IsNamed text.details.nodes (message_names events)) raw
+  pub apart : text.log.events ≡ apart_if (unnamed_in (message_names events)) (length (message_names events)) (senders_of text.details.nodes events) raw
+  pub nodes : text.details.nodes ≡ node_names events
   pub names : text.message_names ≡ message_names events
   pub messages : text.messages ≡ apart_count (unnamed_in (message_names events)) (length (message_names events)) (length raw)
-  pub few_nodes : length text.nodes ≤ MAX_LOG_NODES
+  pub few_nodes : length text.details.nodes ≤ MAX_LOG_NODES
   pub few_messages : text.messages ≤ 2 * length text.log.events
-  pub labels : (place : ℕ) → label_at text.labels place ≡ label_of_event events place
+  pub labels : (place : ℕ) → label_at text.details.labels place ≡ label_of_event events place
   pub lines_rise : AllPairs (λ d e. d.line < e.line) text.log.events
 
 -- the text has the events that records tell of, the questions that they ask and the files that they begin, in their order, and knows how many were left
 -- out, and why
 pub record IsTextOf (items : List LogItem) (text : LogText) : Type 0 where
   pub log : IsLogOf (events_in items) text
-  pub questions : map plain_asked text.questions.items ≡ questions_in items
-  pub skipped : skipped_count text.skipped ≡ skip_count items
-  pub left_out : map (λ b. b.why) text.left_out.items ≡ reasons_in items
-  pub files : map (λ mark. mark.name) text.files ≡ file_names_in items
+  pub questions : map plain_asked text.details.questions ≡ questions_in items
+  pub skipped : skipped_count text.details.skipped ≡ skip_count items
+  pub left_out : map (λ b. b.why) text.details.left_out ≡ reasons_in items
+  pub files : map (λ mark. mark.name) text.details.files ≡ file_names_in items
 
 -- how many records a text has
 abbrev pub record_count : LogText → ℕ
-record_count text = length text.log.events + length text.questions.items + skipped_count text.skipped + length text.left_out.items
+record_count text = length text.log.events + length text.details.questions + skipped_count text.details.skipped + length text.details.left_out

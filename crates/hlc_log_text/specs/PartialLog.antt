@@ -28,6 +28,7 @@ use Rattle.hlc_log_text.specs.LogItem.{Asks, Begins, Fails, LogItem, Skips, Tell
 use Rattle.hlc_log_text.specs.BadRecords.{bad_records_on}
 use Rattle.hlc_log_text.specs.FaultRule.{leaves_out, leaves_sent}
 use Rattle.hlc_log_text.specs.Labels.{label_at}
+use Rattle.hlc_log_text.specs.LogDetails.{ToldDetails}
 use Rattle.hlc_log_text.specs.LogText.{IsRawTextOf, apart_count, apart_if, kind_message, kind_word, message_names, node_names, node_of, record_count, sender_of_event, unnamed_in}
 use Rattle.hlc_log_text.specs.Names.{with_name}
 use Rattle.hlc_log_text.specs.NamedEvent.{NamedEvent, if_message}
@@ -56,18 +57,24 @@ abbrev pub last_of : (before : ℕ) → List ℕ → ℕ
 last_of before [] = before
 last_of before (line ∷ lines) = last_of line lines
 
+-- what was read beside the events, with these names of nodes
+abbrev pub details_with : (nodes : List (List ℕ)) → PartialLog → ToldDetails
+details_with nodes partial = record {
+  files = partial.files;
+  nodes = nodes;
+  labels = partial.labels;
+  questions = partial.questions.items;
+  skipped = partial.skipped;
+  left_out = partial.left_out.items;
+}
+
 -- what was read so far, as a text of its own
 abbrev pub text_of : PartialLog → LogText
 text_of partial = record {
   log = partial.log;
-  nodes = partial.nodes;
   message_names = partial.messages;
   messages = length partial.messages;
-  labels = partial.labels;
-  questions = partial.questions;
-  skipped = partial.skipped;
-  left_out = partial.left_out;
-  files = partial.files;
+  details = details_with partial.nodes partial;
 }
 
 -- the nodes that so many events name as senders, by their places
@@ -83,28 +90,18 @@ apart_log partial =
 abbrev pub apart_text : PartialLog → LogText
 apart_text partial = record {
   log = apart_log partial;
-  nodes = partial.nodes;
   message_names = partial.messages;
   messages = apart_count (unnamed_in partial.messages) (length partial.messages) (length partial.log.events);
-  labels = partial.labels;
-  questions = partial.questions;
-  skipped = partial.skipped;
-  left_out = partial.left_out;
-  files = partial.files;
+  details = details_with partial.nodes partial;
 }
 
 -- what was read, with these names of nodes
-abbrev pub text_with : List (List ℕ) → PartialLog → LogText
+abbrev pub text_with : (nodes : List (List ℕ)) → PartialLog → LogText
 text_with nodes partial = record {
   log = partial.log;
-  nodes = nodes;
   message_names = partial.messages;
   messages = apart_count (unnamed_in partial.messages) (length partial.messages) (length partial.log.events);
-  labels = partial.labels;
-  questions = partial.questions;
-  skipped = partial.skipped;
-  left_out = partial.left_out;
-  files = partial.files;
+  details = details_with nodes partial;
 }
 
 -- what was read names few nodes, and mentions no more messages than it has events

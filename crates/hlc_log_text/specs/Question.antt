@@ -7,15 +7,17 @@ use Rattle.hlc_csv.specs.TextEnd.{IsClosed}
 use Rattle.hlc_csv.specs.Rows.{Fields, field_of}
 use Rattle.hlc_log_text.specs.declared.bad_log.BadLog.{BadLog}
 use Rattle.hlc_log_text.specs.declared.bad_log.BadLog.TheVariants as bad
+use Rattle.hlc_log_text.specs.declared.cause_word.CauseWord.{CauseWord}
 use Rattle.hlc_log_text.specs.declared.log_column.LogColumn.TheVariants as column
 use Rattle.hlc_log_text.specs.declared.location.Location.{Location}
 use Rattle.hlc_log_text.specs.declared.question.LogQuestion.{LogQuestion}
 use Rattle.hlc_log_text.specs.declared.question.LogQuestion.TheVariants as question
 use Rattle.hlc_log_text.specs.declared.question_word.QuestionWord.{QuestionWord}
 use Rattle.hlc_log_text.specs.declared.question_word.QuestionWord.TheVariants as word
+use Rattle.hlc_log_text.specs.CauseWord.{cause_word_of}
 use Rattle.hlc_log_text.specs.NamedEvent.{is_name}
 
--- what a record asks about events, by where their lines stand, or about a node, by its name
+-- what a record asks about events, by where their lines stand, or about a node, by its name, and a rule
 pub data Asked : Type 0 where
   Explain : (event : Location) → Asked
   Check : (event : Location) (chain : List Location) → Asked
@@ -24,6 +26,9 @@ pub data Asked : Type 0 where
   Drift : (node : List ℕ) → Asked
   Claimed : (event : Location) → Asked
   Event : (event : Location) → Asked
+  Why : (first second : Location) → Asked
+  Tainted : (event : Location) → Asked
+  First : (node : List ℕ) (rule : CauseWord) → Asked
 
 -- a question of the program, without its types
 abbrev pub plain_asked : LogQuestion → Asked
@@ -34,6 +39,9 @@ plain_asked (question.Influenced event) = Influenced event
 plain_asked (question.Drift node) = Drift node
 plain_asked (question.Claimed event) = Claimed event
 plain_asked (question.Event event) = Event event
+plain_asked (question.Why first second) = Why first second
+plain_asked (question.Tainted event) = Tainted event
+plain_asked (question.First node rule) = First node rule
 
 -- what was read as a question, or the reason for which it is none
 abbrev pub plain_read : Result LogQuestion BadLog → Result Asked BadLog
@@ -50,6 +58,9 @@ question_word_of field =
     else if bytes_eq field (codes "drift") then Some word.Drift
     else if bytes_eq field (codes "claimed") then Some word.Claimed
     else if bytes_eq field (codes "event") then Some word.Event
+    else if bytes_eq field (codes "why") then Some word.Why
+    else if bytes_eq field (codes "tainted") then Some word.Tainted
+    else if bytes_eq field (codes "first") then Some word.First
     else None
 
 -- whether a question of a word may have so many fields, the word among them: a list of lines may have any length
@@ -61,6 +72,9 @@ takes_fields word.Influenced fields = fields == 2
 takes_fields word.Drift fields = fields == 2
 takes_fields word.Claimed fields = fields == 2
 takes_fields word.Event fields = fields == 2
+takes_fields word.Why fields = fields == 3
+takes_fields word.Tainted fields = fields == 2
+takes_fields word.First fields = fields == 3
 
 -- the line of this number in a file, or in none
 abbrev pub numbered : (file : Option (List ℕ)) → Option ℕ → Option Location
@@ -108,6 +122,15 @@ relation_of None second = None
 abbrev pub relation_asked : Fields → Option Asked
 relation_asked fields = relation_of (location_in fields 1) (location_in fields 2)
 
+-- how one event came to know of another, where the locations of both are there
+abbrev pub why_of : Option Location → Option Location → Option Asked
+why_of (Some first) (Some second) = Some (Why first second)
+why_of (Some first) None = None
+why_of None second = None
+
+abbrev pub why_asked : Fields → Option Asked
+why_asked fields = why_of (location_in fields 1) (location_in fields 2)
+
 -- the same where the location of the first event is there
 abbrev pub check_from : Location → Fields → Result Asked BadLog
 check_from event fields = ok_or (check_of (Some event) (locations_in (drop 2 fields))) bad.Line
@@ -115,9 +138,17 @@ check_from event fields = ok_or (check_of (Some event) (locations_in (drop 2 fie
 abbrev pub relation_from : Location → Fields → Result Asked BadLog
 relation_from first fields = ok_or (relation_of (Some first) (location_in fields 2)) bad.Line
 
+abbrev pub why_from : Location → Fields → Result Asked BadLog
+why_from first fields = ok_or (why_of (Some first) (location_in fields 2)) bad.Line
+
 -- how far the stamps of the node of a name ran ahead, if it may be a name
 abbrev pub drift_asked : List ℕ → Result Asked BadLog
 drift_asked name = if is_name name then Ok (Drift name) else Err (bad.Name column.Node)
+
+-- which event of the node of a name is the first to break the rule of a word, if it may be a name, and if a rule has the word
+abbrev pub first_asked : (name rule : List ℕ) → Result Asked BadLog
+first_asked name rule =
+    if is_name name then ok_or (option_map (λ broken. First name broken) (cause_word_of rule)) bad.Fields else Err (bad.Name column.Node)
 
 -- what a record of a word and as many fields as it has asks
 abbrev pub asked_by_word : QuestionWord → Fields → Result Asked BadLog
@@ -128,6 +159,9 @@ asked_by_word word.Influenced fields = ok_or (option_map (λ event. Influenced e
 asked_by_word word.Drift fields = drift_asked (field_of fields 1)
 asked_by_word word.Claimed fields = ok_or (option_map (λ event. Claimed event) (location_in fields 1)) bad.Line
 asked_by_word word.Event fields = ok_or (option_map (λ event. Event event) (location_in fields 1)) bad.Line
+asked_by_word word.Why fields = ok_or (why_asked fields) bad.Line
+asked_by_word word.Tainted fields = ok_or (option_map (λ event. Tainted event) (location_in fields 1)) bad.Line
+asked_by_word word.First fields = first_asked (field_of fields 1) (field_of fields 2)
 
 -- the word is known: then the number of fields is right, and then the numbers or the name
 abbrev pub asked_after_word : Option QuestionWord → Fields → Result Asked BadLog

@@ -102,10 +102,10 @@ pub record IsReadWhole (rules : LogRules) (most : ℕ) (bytes : Option (List ℕ
   pub make : SayItems rules records items
   pub held : IsTextOf items text
   pub on_lines : AreOnLines bytes items text.log.events
-  pub skipped : AreSkippedOnLines bytes items text.skipped
-  pub left_out : AreLeftOutOnLines bytes items text.left_out.items
-  pub files : AreMarksOnLines bytes items text.files
-  pub taken : MayBeLeftOut rules.faults text.left_out.items
+  pub skipped : AreSkippedOnLines bytes items text.details.skipped
+  pub left_out : AreLeftOutOnLines bytes items text.details.left_out
+  pub files : AreMarksOnLines bytes items text.details.files
+  pub taken : MayBeLeftOut rules.faults text.details.left_out
 
 -- so it is of what was read, with these names of nodes
 abbrev pub IsTextRead : LogRules → (most : ℕ) → (bytes : Option (List ℕ)) → PartialLog → (nodes : List (List ℕ)) → Type 0

@@ -7,12 +7,12 @@ use std::alloc::{AllocError, Global};
 use std::collections::HashMap;
 use std::marker::Model;
 
-/// The labels of a log's events, by their places; seen as a list of places with their labels.
-///
-/// Only a label that is there takes memory: one of at most 22 bytes lies in the memory of the map, and a longer one takes an
-/// allocation.
+// The labels of a log's events, by their places; seen as a list of places with their labels.
+//
+// Only a label that is there takes memory: one of at most 22 bytes lies in the memory of the map, and a longer one takes an
+// allocation.
 #[derive(Drop)]
-pub struct Labels {
+pub(crate) struct Labels {
     labels: HashMap<u32, Bytes<'static>>,
 }
 
@@ -25,8 +25,8 @@ impl Model for Labels {
 }
 
 impl Labels {
-    /// No labels. It takes no memory.
-    pub fn new(alloc: Global) -> Labels
+    // No labels. It takes no memory.
+    pub(crate) fn new(alloc: Global) -> Labels
         ensures { result ≡ [] }
     {
         Labels {
@@ -34,8 +34,8 @@ impl Labels {
         }
     }
 
-    /// The label of the event at a place, if it has one.
-    pub fn get(&self, place: EventId) -> Option<&[u8]>
+    // The label of the event at a place, if it has one.
+    pub(crate) fn get(&self, place: EventId) -> Option<&[u8]>
         ensures { option_map (λ label. label.now) result ≡ label_at self.now place.0 }
     {
         let label = self.labels.get(&place.0)?;

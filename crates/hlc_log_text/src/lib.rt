@@ -38,18 +38,19 @@
 //! and why they are bad; but a bad header ends it always, and so does a quotation mark that nothing closes.
 //!
 //! Records that ask questions may stand anywhere among them: `explain,LINE`, `check,LINE` and any number of lines after it,
-//! `relation,LINE,LINE`, `influenced,LINE`, `drift,NODE`, `claimed,LINE` or `event,LINE`, with `NAME:LINE` (`Location`) for a line of a file. A
-//! question is asked of the whole log, so logs with questions can be put one after another as well.
+//! `relation,LINE,LINE`, `influenced,LINE`, `drift,NODE`, `claimed,LINE`, `event,LINE`, `why,LINE,LINE`, `tainted,LINE` or `first,NODE,RULE`, with
+//! `NAME:LINE` (`Location`) for a line of a file, and a RULE by its word (`CauseWord`). A question is asked of the whole log, so logs with
+//! questions can be put one after another as well.
 //!
-//! - `read_log` reads a log to its end: a `LogText` with its events (`hlc_log`), the names of nodes and of messages, the labels and the
-//!   questions, and which records were left out, before it was read (`Skipped`) or as bad ones (`BadLine`).
+//! - `read_log` reads a log to its end: a `LogText` with its events (`hlc_log`), the names of their messages, and `LogDetails`, which is all that a
+//!   log tells beside its events: the names of nodes, the labels, the questions and the files, and which records were left out, before it was read
+//!   (`Skipped`) or as bad ones (`BadLine`). Only labels that are there take memory.
 //! - `Files` has the files that a log was put together of, by their marks (`FileMark`), which are records of one field `==> NAME <==`: it says
 //!   where a line stands in these. Each file may have a header of its own. `LineText` tells a line so in a row: `NAME:LINE`, or `LINE` if no mark
 //!   comes before it.
 //! - `Names` has names in the order in which they were first mentioned, and gives the name of a number; `node_name` gives that of a node.
-//! - `Labels` gives the label of an event by its place; only labels that are there take memory.
 //! - `LogQuestion` is what a record can ask, and `question_of` reads one from a text of its own; `location_of` reads a location.
-//! - `LogColumn` is a column, by its name, and `LogWord` the word of an event.
+//! - `LogColumn` is a column, by its name, `LogWord` the word of an event, and `CauseWord` that of a rule which an event breaks.
 //! - `LogRules` says how a log is read: the syntax of its records, the form of its stamps, the units of its readings and of `l`, within how much
 //!   of the clocks its readings are known, what the clocks do at receives (`hlc_causality`), what becomes of a receive of a message that
 //!   nobody sends, which send a receive is of if its message is sent again, and what becomes of bad records (`FaultRule`). Reading a record takes
@@ -104,6 +105,7 @@
 
 mod bad_column;
 mod bad_log;
+mod cause_word;
 mod columns;
 mod extras;
 mod fault;
@@ -116,6 +118,7 @@ pub mod laws;
 mod line_text;
 mod location;
 mod log_column;
+mod log_details;
 mod log_header;
 mod log_rules;
 mod log_text;
@@ -139,6 +142,7 @@ mod time_unit;
 mod units;
 
 pub use bad_log::{BadLine, BadLog, BadRecord};
+pub use cause_word::CauseWord;
 pub use extras::Extras;
 pub use fault::LogTextFault;
 pub use fault_rule::FaultRule;
@@ -146,10 +150,10 @@ pub use file_mark::{FileMark, file_name};
 pub use files::Files;
 pub use hlc_log_line::MAX_NAME_LEN;
 pub use hlc_packed::PackedBits;
-pub use labels::Labels;
 pub use line_text::LineText;
 pub use location::Location;
 pub use log_column::LogColumn;
+pub use log_details::LogDetails;
 pub use log_header::{LogHeader, RecordItem};
 pub use log_rules::LogRules;
 pub use log_text::LogText;

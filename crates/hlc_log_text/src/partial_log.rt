@@ -23,6 +23,7 @@ use crate::file_mark::file_name;
 use crate::files::Files;
 use crate::hints::Hints;
 use crate::labels::Labels;
+use crate::log_details::LogDetails;
 use crate::log_rules::LogRules;
 use crate::log_text::LogText;
 use crate::log_word::LogWord;
@@ -622,14 +623,16 @@ impl PartialLog {
         } = self;
         LogText {
             log,
-            files,
-            nodes,
             message_names: messages.into_names(),
             messages: count,
-            labels,
-            questions,
-            skipped,
-            left_out,
+            details: LogDetails {
+                files,
+                nodes,
+                labels,
+                questions,
+                skipped,
+                left_out,
+            },
         }
     }
 

@@ -1,9 +1,10 @@
 ghost use Rattle.std.specs.Prelude.{◌≡◌, ◌<◌, IfOk, None, Some, drop, length, option_map};
 ghost use Rattle.csv.specs.Records.{fields_of};
 ghost use Rattle.hlc_csv.specs.Number.{number_of};
-ghost use Rattle.hlc_log_text.specs.Question.{asked_by_word, asked_of, check_from, drift_asked, location_by, location_in, location_of_field, locations_in, numbered, plain_read, relation_from};
+ghost use Rattle.hlc_log_text.specs.Question.{asked_by_word, asked_of, check_from, drift_asked, first_asked, location_by, location_in, location_of_field, locations_in, numbered, plain_read, relation_from, why_from};
 
 use crate::bad_log::BadLog;
+use crate::cause_word::CauseWord;
 use crate::location::Location;
 use crate::log_column::LogColumn;
 use crate::question_word::QuestionWord;
@@ -41,6 +42,22 @@ pub enum LogQuestion {
     Claimed(Location),
     /// What is known of an event.
     Event(Location),
+    /// How one event came to know of another.
+    Why {
+        /// The event of which the other knows.
+        first: Location,
+        /// The event that came to know of it.
+        second: Location,
+    },
+    /// Which least stamps are higher for the floor of an event.
+    Tainted(Location),
+    /// Which event of a node is the first to break a rule.
+    First {
+        /// The name of the node.
+        node: Bytes<'static>,
+        /// The rule.
+        rule: CauseWord,
+    },
 }
 
 // The line of this number in a file of a name that it may have.
@@ -143,6 +160,20 @@ fn read_relation(
     }
 }
 
+// The question how an event came to know of one, if the field of that event names a location.
+fn read_why(
+    alloc: Global,
+    first: Location,
+    fields: &ByteRecord,
+) -> Result<Result<LogQuestion, BadLog>, AllocError>
+    ensures { IfOk result (λ read. plain_read read ≡ why_from first (fields_of fields.now)) }
+{
+    match location_at(alloc, fields, 2)? {
+        Some(second) => Ok(Ok(LogQuestion::Why { first, second })),
+        None => Ok(Err(BadLog::Line)),
+    }
+}
+
 // The question about the node of this name, if a node may have such a name.
 fn read_drift(alloc: Global, name: &[u8]) -> Result<Result<LogQuestion, BadLog>, AllocError>
     ensures { IfOk result (λ read. plain_read read ≡ drift_asked name.now) }
@@ -152,6 +183,25 @@ fn read_drift(alloc: Global, name: &[u8]) -> Result<Result<LogQuestion, BadLog>,
     }
     let name = Bytes::from_slice(alloc, name)?;
     Ok(Ok(LogQuestion::Drift(name)))
+}
+
+// The question which event of the node of this name is the first to break the rule of a word, if a node may have such a name, and a rule has the
+// word.
+fn read_first(
+    alloc: Global,
+    name: &[u8],
+    rule: &[u8],
+) -> Result<Result<LogQuestion, BadLog>, AllocError>
+    ensures { IfOk result (λ read. plain_read read ≡ first_asked name.now rule.now) }
+{
+    if !may_be_name(name) {
+        return Ok(Err(BadLog::Name(LogColumn::Node)));
+    }
+    let Some(rule) = CauseWord::parse(rule) else {
+        return Ok(Err(BadLog::Fields));
+    };
+    let node = Bytes::from_slice(alloc, name)?;
+    Ok(Ok(LogQuestion::First { node, rule }))
 }
 
 // What a record of a word and as many fields as it has asks.
@@ -164,6 +214,7 @@ fn make_question(
 {
     match (word, location_at(alloc, fields, 1)?) {
         (QuestionWord::Drift, _) => read_drift(alloc, field(fields, 1)),
+        (QuestionWord::First, _) => read_first(alloc, field(fields, 1), field(fields, 2)),
         (_, None) => Ok(Err(BadLog::Line)),
         (QuestionWord::Explain, Some(event)) => Ok(Ok(LogQuestion::Explain(event))),
         (QuestionWord::Check, Some(event)) => read_check(alloc, event, fields),
@@ -171,6 +222,8 @@ fn make_question(
         (QuestionWord::Influenced, Some(event)) => Ok(Ok(LogQuestion::Influenced(event))),
         (QuestionWord::Claimed, Some(event)) => Ok(Ok(LogQuestion::Claimed(event))),
         (QuestionWord::Event, Some(event)) => Ok(Ok(LogQuestion::Event(event))),
+        (QuestionWord::Why, Some(first)) => read_why(alloc, first, fields),
+        (QuestionWord::Tainted, Some(event)) => Ok(Ok(LogQuestion::Tainted(event))),
     }
 }
 

@@ -15,6 +15,12 @@ pub(crate) enum QuestionWord {
     Claimed,
     /// `event,LINE`.
     Event,
+    /// `why,LINE,LINE`.
+    Why,
+    /// `tainted,LINE`.
+    Tainted,
+    /// `first,NODE,RULE`.
+    First,
 }
 
 impl QuestionWord {
@@ -39,6 +45,12 @@ impl QuestionWord {
             Some(QuestionWord::Claimed)
         } else if field == b"event".as_slice() {
             Some(QuestionWord::Event)
+        } else if field == b"why".as_slice() {
+            Some(QuestionWord::Why)
+        } else if field == b"tainted".as_slice() {
+            Some(QuestionWord::Tainted)
+        } else if field == b"first".as_slice() {
+            Some(QuestionWord::First)
         } else {
             None
         }
@@ -50,9 +62,9 @@ impl QuestionWord {
     {
         match self {
             QuestionWord::Check => fields >= 2,
-            QuestionWord::Relation => fields == 3,
+            QuestionWord::Relation | QuestionWord::Why | QuestionWord::First => fields == 3,
             QuestionWord::Explain | QuestionWord::Influenced | QuestionWord::Drift => fields == 2,
-            QuestionWord::Claimed | QuestionWord::Event => fields == 2,
+            QuestionWord::Claimed | QuestionWord::Event | QuestionWord::Tainted => fields == 2,
         }
     }
 }

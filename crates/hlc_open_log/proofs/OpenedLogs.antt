@@ -42,7 +42,7 @@ pub is_open : (rules : LogRules) (text : LogText) (opened : OpenedLog) → IsSou
 is_open rules text opened sound is nodes =
     let events = resent_apart rules.resent text.messages text.log.events in
     let rise = rise_apart rules.resent text.messages text.log.events sound.rise in
-    let named = names_apart rules.resent text.messages text.log.events text.nodes sound.named in
+    let named = names_apart rules.resent text.messages text.log.events text.details.nodes sound.named in
     let filled = is.ordered.filled in
     let part = is.ordered.part in
     let names = λ (nodes : List (List ℕ)). HaveNames opened.log.events nodes in
@@ -51,13 +51,13 @@ is_open rules text opened sound is nodes =
       nodes_are = nodes;
       rise = rise_filled _ opened.log.events filled (part_rises _ _ _ _ _ part (rise_kept rules.unsent_local events rise));
       few = rw is.nodes sound.few;
-      named = subst names (sym is.nodes) (names_filled _ opened.log.events text.nodes filled
-          (part_all (λ event. event.node.0 < length text.nodes) _ _ _ _ _ part (names_kept rules.unsent_local events text.nodes named)));
+      named = subst names (sym is.nodes) (names_filled _ opened.log.events text.details.nodes filled
+          (part_all (λ event. event.node.0 < length text.details.nodes) _ _ _ _ _ part (names_kept rules.unsent_local events text.details.nodes named)));
     }
 
 -- a fault of its order explains why a log that was read isn't opened
 pub explained : (rules : LogRules) (most : ℕ) (bytes : Option (List ℕ)) (text : LogText) → IsReadWhole rules most bytes text → (f : OpenFault)
-    → TellsDisorder rules.faults text.files text.message_names (opened_events rules text.messages text.log.events) f
+    → TellsDisorder rules.faults text.details.files text.message_names (opened_events rules text.messages text.log.events) f
     → ExplainsOpenFault rules most bytes f
 explained rules most bytes text read (fault.Bad (Records records)) none = absurd none
 explained rules most bytes text read (fault.Bad (Events events)) none = (text, read, none)

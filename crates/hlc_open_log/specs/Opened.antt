@@ -142,12 +142,12 @@ pub record IsOpenedOf (rules : LogRules) (text : LogText) (opened : OpenedLog) :
   pub kept : Option (List ℕ)
   pub lines : List BadLine
   pub ordered : IsOrderedOf rules text.messages text.log.events kept lines opened.log opened.unsent opened.resent
-  pub files : opened.files ≡ text.files
-  pub nodes : opened.nodes ≡ text.nodes
-  pub labels : opened.labels ≡ labels_kept kept text.labels
-  pub questions : opened.questions ≡ text.questions.items
-  pub skipped : opened.skipped ≡ text.skipped
-  pub left_out : opened.left_out ≡ text.left_out.items ++ lines
+  pub files : opened.files ≡ text.details.files
+  pub nodes : opened.nodes ≡ text.details.nodes
+  pub labels : opened.labels ≡ labels_kept kept text.details.labels
+  pub questions : opened.questions ≡ text.details.questions
+  pub skipped : opened.skipped ≡ text.details.skipped
+  pub left_out : opened.left_out ≡ text.details.left_out ++ lines
   pub full : opened.full ≡ greatest_c rules.form
 
 -- the bytes are a log of at most so many records, which is opened
@@ -160,5 +160,5 @@ pub record IsSoundText (text : LogText) : Type 0 where
   pub in_range : All IsInRange text.log.events
   pub messages : text.messages ≤ 2 * MAX_CAPACITY
   pub rise : LinesRise text.log.events
-  pub few : length text.nodes ≤ MAX_LOG_NODES
-  pub named : HaveNames text.log.events text.nodes
+  pub few : length text.details.nodes ≤ MAX_LOG_NODES
+  pub named : HaveNames text.log.events text.details.nodes

@@ -143,7 +143,7 @@ AreRecordsBad rules most bytes told = IsReadUpToBad rules most bytes told ⊎ Is
 abbrev pub IsOrderBad : LogRules → (most : ℕ) → (bytes : Option (List ℕ)) → List BadEvent → Type 0
 IsOrderBad rules most bytes told =
     (text : LogText) × IsReadWhole rules most bytes text
-    × HasNoOrder rules.faults text.files text.message_names (opened_events rules text.messages text.log.events) told
+    × HasNoOrder rules.faults text.details.files text.message_names (opened_events rules text.messages text.log.events) told
 
 -- the bytes can't be opened as a log for this reason
 abbrev pub IsBadInput : LogRules → (most : ℕ) → (bytes : Option (List ℕ)) → BadInput → Type 0

@@ -3,7 +3,7 @@ ghost use Rattle.hlc_stamp.specs.Ids.{places_of};
 ghost use Rattle.hlc_open_log.specs.Opened.{place_read};
 
 use hlc_log_report::OrderedLog;
-use hlc_log_text::{BadLine, Files, Labels, LogQuestion, Names, Skipped};
+use hlc_log_text::{BadLine, Files, LogDetails, LogQuestion, Names, Skipped};
 use hlc_stamp::EventId;
 use std::alloc::{AllocError, Global};
 use std::marker::Model;
@@ -12,51 +12,24 @@ use std::marker::Model;
 #[derive(Drop)]
 pub struct OpenLog {
     pub(crate) ordered: OrderedLog,
-    pub(crate) files: Files,
-    pub(crate) nodes: Names,
-    // By the places that events had in the log that was read: if not all are opened, those of them that are.
-    pub(crate) labels: Labels,
+    pub(crate) details: LogDetails,
+    // If not all events of the log that was read are opened, the places there of those that are.
     pub(crate) kept: Option<Vec<EventId>>,
-    pub(crate) questions: Vec<LogQuestion>,
     pub(crate) unsent: Option<u32>,
     pub(crate) resent: Option<u32>,
-    pub(crate) skipped: Option<Skipped>,
-    pub(crate) left_out: Vec<BadLine>,
     pub(crate) full: u32,
 }
 
 impl Model for OpenLog {
-    ghost use Rattle.std.specs.Prelude.{option_map};
-    ghost use Rattle.hlc_stamp.specs.Ids.{places_of};
-    ghost use Rattle.hlc_open_log.specs.Opened.{IsOpen, OpenedLog, labels_kept};
+    ghost use Rattle.hlc_open_log.specs.Opened.{IsOpen, OpenedLog};
 
     ghost Value = { OpenedLog };
 
-    ghost view = { λ a. record {
-      log = a.ordered;
-      files = a.files;
-      nodes = a.nodes;
-      labels = labels_kept (option_map (λ kept. places_of kept.items) a.kept) a.labels;
-      questions = a.questions.items;
-      unsent = a.unsent;
-      resent = a.resent;
-      skipped = a.skipped;
-      left_out = a.left_out.items;
-      full = a.full;
-    } };
+    ghost use Rattle.hlc_open_log.specs.OpenLog.{opened_of};
 
-    ghost invariant = { λ a. IsOpen (record {
-      log = a.ordered;
-      files = a.files;
-      nodes = a.nodes;
-      labels = labels_kept (option_map (λ kept. places_of kept.items) a.kept) a.labels;
-      questions = a.questions.items;
-      unsent = a.unsent;
-      resent = a.resent;
-      skipped = a.skipped;
-      left_out = a.left_out.items;
-      full = a.full;
-    }) };
+    ghost view = { opened_of };
+
+    ghost invariant = { λ a. IsOpen (opened_of a) };
 }
 
 // Where the event at a place stood in the log that was read, if only those at the kept places are opened.
@@ -104,7 +77,7 @@ impl OpenLog {
     pub fn files(&self) -> &Files
         ensures { result.now ≡ self.now.files }
     {
-        &self.files
+        self.details.files()
     }
 
     /// The names of its nodes.
@@ -112,21 +85,21 @@ impl OpenLog {
         ensures value { result.now ≡ self.now.nodes }
         ensures few { length result.now ≤ MAX_LOG_NODES }
     {
-        &self.nodes
+        self.details.nodes()
     }
 
     /// The label of the event at a place, if it has one.
     pub fn label(&self, place: EventId) -> Option<&[u8]>
         ensures { option_map (λ label. label.now) result ≡ label_at self.now.labels place.0 }
     {
-        self.labels.get(place_read(&self.kept, place)?)
+        self.details.label(place_read(&self.kept, place)?)
     }
 
     /// What is asked in it.
     pub fn questions(&self) -> &[LogQuestion]
         ensures { result.now ≡ self.now.questions }
     {
-        &self.questions
+        self.details.questions()
     }
 
     /// How many receives of messages that nobody sends were taken as local events, if the rules said so.
@@ -147,14 +120,14 @@ impl OpenLog {
     pub fn skipped(&self) -> Option<Skipped>
         ensures { result ≡ self.now.skipped }
     {
-        self.skipped
+        self.details.skipped()
     }
 
     /// The records that are bad and were left out, in the order of their lines; then those of events that have no place in any causal order.
     pub fn left_out(&self) -> &[BadLine]
         ensures { result.now ≡ self.now.left_out }
     {
-        &self.left_out
+        self.details.left_out()
     }
 
     /// The greatest `c` that the form of its stamps can write.

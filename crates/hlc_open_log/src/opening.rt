@@ -364,40 +364,30 @@ fn in_order(
 fn open_text(alloc: Global, text: LogText, rules: LogRules) -> Result<OpenLog, OpenFault>
     requires { IsSoundText text }
     ensures opened { IfOk result (IsOpenedOf rules text) }
-    ensures fault { IfErr result (TellsDisorder rules.faults text.files text.message_names (opened_events rules text.messages text.log.events)) }
+    ensures fault { IfErr result (TellsDisorder rules.faults text.details.files text.message_names (opened_events rules text.messages text.log.events)) }
 {
     let LogText {
         log,
-        files,
-        nodes,
         message_names,
         messages,
-        labels,
-        questions,
-        skipped,
-        mut left_out,
+        mut details,
     } = text;
     let ordered = in_order(
         alloc,
         log,
-        &files,
+        details.files(),
         message_names,
         messages as u32,
-        nodes.len() as u16,
+        details.nodes().len() as u16,
         rules,
     )?;
-    left_out.extend_from_slice(&ordered.left_out)?;
+    details.leave_out(&ordered.left_out)?;
     Ok(OpenLog {
         ordered: ordered.log,
-        files,
-        nodes,
-        labels,
+        details,
         kept: ordered.kept,
-        questions,
         unsent: ordered.unsent,
         resent: ordered.resent,
-        skipped,
-        left_out,
         full: rules.form.full(),
     })
 }

@@ -1,3 +1,4 @@
 pub mod Drawings
-pub mod LogEvents
+pub mod GivenFacts
+pub mod LogAnswers
 pub mod Statuses

@@ -1,15 +1,19 @@
 ghost use Rattle.std.specs.Prelude.{◌≡◌, ◌⊎◌, ◌≤◌};
 ghost use Rattle.hlc_page.specs.Answer.{IsAudit, IsLogTooLong, outcome_status};
+ghost use Rattle.hlc_page.specs.Given.{IsJsonMistake, IsQuestionMistake, texts_in};
 ghost use Rattle.hlc_page.specs.Status.{IsStatusOf};
 
-use crate::options::rules;
+use crate::given::{asked_questions, json_rules};
+use crate::options::auditing;
+use crate::page_log::PageLog;
 use crate::room::put;
 use crate::status::{
     PAGE_BAD_LOG, PAGE_BROKEN, PAGE_OK, PAGE_OVER_LIMIT, PAGE_ROOM, PAGE_SETTINGS, PAGE_TOO_LONG,
-    status,
+    given_status, status,
 };
 use hlc_command_fault::CommandFault;
-use hlc_log_audit::{Outcome, audit_run};
+use hlc_log_audit::Outcome;
+use hlc_log_commands::audit_by;
 use hlc_log_text::NameKey;
 use std::alloc::Global;
 
@@ -27,37 +31,44 @@ fn outcome_status(outcome: Outcome) -> u32
     }
 }
 
-/// Audits a log, as `hlc audit` does: questions stand in the log itself. Stamps are written in two fields if the form is 0, packed with
-/// that many bits for `c` if it is 1 to 32, and dotted otherwise. Readings are known to within the tolerance. At a receive clocks tick if
-/// its number is 0, merge if it is 1, and merge with what they read otherwise. A limit of 2^64 - 1 means no limit.
+/// Audits a log, as `hlc audit` does: questions stand in the log itself, or are asked beside it by texts as `--ask` takes them. A limit of 2^64 - 1
+/// means no limit. What is found is written as rows of CSV if `output` is 0, as JSON if it is 1, and as text with any other number.
 #[unsafe(no_mangle)]
 pub extern "C" fn hlc_page_audit(
     alloc: Global,
-    log: &[u8],
-    stamp_form: u32,
-    tolerance: u64,
-    receives: u32,
-    unsent_local: bool,
+    log: &PageLog<'_>,
+    asked: &[&[u8]],
     drift_limit: u64,
     report: bool,
+    grouped: bool,
+    output: u32,
     room: &mut [u8],
     told: &mut usize,
 ) -> u32
-    ensures status { IsStatusOf (IsAudit stamp_form tolerance receives unsent_local drift_limit report log.now) room.old room.new told.old told.new result }
-    ensures settings { ¬ (result ≡ PAGE_SETTINGS) }
-    ensures too_long { result ≡ PAGE_TOO_LONG → IsLogTooLong stamp_form tolerance receives log.now }
+    ensures status { IsStatusOf (IsAudit log.now (texts_in asked.now) drift_limit report grouped output) room.old room.new told.old told.new result }
+    ensures settings { result ≡ PAGE_SETTINGS → IsJsonMistake log.now ⊎ IsQuestionMistake (texts_in asked.now) }
+    ensures too_long { result ≡ PAGE_TOO_LONG → IsLogTooLong log.now }
 {
-    let rules = rules(
-        stamp_form,
-        tolerance,
-        receives,
-        unsent_local,
-        drift_limit,
-        report,
-    );
-    let mut rows = Vec::new(alloc);
-    match audit_run(alloc, log, &mut rows, rules, &[], NameKey::fixed()) {
-        Ok(audited) => put(&rows, outcome_status(audited.outcome), room, told),
+    let json = match json_rules(alloc, log) {
+        Ok(json) => json,
+        Err(fault) => return given_status(fault),
+    };
+    let questions = match asked_questions(alloc, asked) {
+        Ok(questions) => questions,
+        Err(fault) => return given_status(fault),
+    };
+    let options = auditing(log, drift_limit, report, grouped, output);
+    let mut found = Vec::new(alloc);
+    match audit_by(
+        alloc,
+        log.text,
+        &mut found,
+        options,
+        &questions,
+        json,
+        NameKey::fixed(),
+    ) {
+        Ok(audited) => put(&found, outcome_status(audited.outcome), room, told),
         Err(fault) => status(CommandFault::from(fault)),
     }
 }

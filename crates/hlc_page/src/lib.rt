@@ -1,6 +1,7 @@
 //! Scripts, pictures, traces and logs for a web page: the exports of a module that a page calls with bytes in the module's memory.
 //!
-//! Each export takes a text and room for the answer, both as slices, and tells how long the answer is. The answer is what the program
+//! Each export takes a text and room for the answer, both as slices, and tells how long the answer is; a log stands in a `PageLog`, which also says how
+//! it is read. The answer is what the program
 //! `hlc` writes for the same text. An export is total: whatever bytes and numbers it is given, it is safe and returns a status. If the
 //! room is too small, nothing is put there, and the page calls again with as much room as it was told. What a status says is the same
 //! for all exports, `IsStatusOf`; they differ in the answers that there are, and in what they refuse.
@@ -18,8 +19,12 @@ mod draw;
 mod draw_chain;
 mod draw_log;
 mod draw_log_around;
+mod given;
 mod judge;
 mod options;
+mod page_fault;
+mod page_log;
+mod picture;
 mod room;
 mod run;
 mod status;
@@ -33,6 +38,7 @@ pub use draw_chain::hlc_page_draw_chain;
 pub use draw_log::hlc_page_draw_log;
 pub use draw_log_around::hlc_page_draw_log_around;
 pub use judge::hlc_page_judge;
+pub use page_log::PageLog;
 pub use run::hlc_page_run;
 pub use status::{
     PAGE_BAD_LOG, PAGE_BROKEN, PAGE_MEMORY, PAGE_NO_EVENT, PAGE_OK, PAGE_OVER_LIMIT, PAGE_ROOM,

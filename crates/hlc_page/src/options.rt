@@ -3,14 +3,14 @@
 ghost use Rattle.std.specs.Prelude.{◌≡◌, ◌↔◌, IfSome, IsNone, IsSome, None};
 ghost use Rattle.hlc_core.specs.State.{new_refusal};
 ghost use Rattle.hlc_seeded.specs.Storm.{are_settings};
-ghost use Rattle.hlc_page.specs.Answer.{AreDrawingOf, AreRulesOf, IsFormOf, event_of, limit_of, line_of, part_around, part_between, receives_of, settings_of};
-ghost use Rattle.hlc_log_text.specs.declared.fault_rule.FaultRule.TheVariants.{First};
-ghost use Rattle.hlc_log_text.specs.declared.record_syntax.RecordSyntax.TheVariants.{Csv};
+ghost use Rattle.hlc_page.specs.Answer.{AreAuditOptionsOf, AreDrawingOf, event_of, events_between, limit_of, line_of, output_of, part_around, part_between, settings_of};
+ghost use Rattle.hlc_page.specs.Given.{AreRecordsOf, IsFormOf, clock_unit_of, fault_rule_of, is_set, l_unit_of, receives_of, resent_of, syntax_of, units_of};
 
+use crate::page_log::PageLog;
 use hlc_causality::Receives;
-use hlc_command_line::{DrawLogOptions, LogLine, LogPart, LogRows};
-use hlc_log_audit::AuditRules;
-use hlc_log_text::{FaultRule, LogRules, PackedBits, RecordSyntax, StampForm};
+use hlc_command_line::{AuditOptions, DrawLogOptions, DrawnPart, DrawnRows, LogLine, OutputForm};
+use hlc_log::Resent;
+use hlc_log_text::{FaultRule, LogRules, PackedBits, RecordSyntax, StampForm, TimeUnit, Units};
 use hlc_stamp::{
     EventId, MAX_CAPACITY, MAX_NODES, MAX_STEPS, MIN_CAPACITY, MIN_NODES, MIN_STEPS, Settings,
 };
@@ -53,13 +53,26 @@ pub(crate) fn has_storm(nodes: u16, steps: u32) -> bool
 }
 
 // The event that is named: the greatest number names none.
-pub(crate) fn event(number: u32) -> Option<EventId>
+fn event(number: u32) -> Option<EventId>
     ensures { result ≡ event_of number }
 {
     if number == u32::MAX {
         None
     } else {
         Some(EventId(number))
+    }
+}
+
+// The events of a history from one to another, by these numbers, with the chain of a third one marked.
+pub(crate) fn events_between(explained: u32, from: u32, to: u32) -> DrawnPart<EventId>
+    ensures { result ≡ events_between explained from to }
+{
+    DrawnPart::Rows {
+        rows: DrawnRows::Between {
+            from: event(from),
+            to: event(to),
+        },
+        explained: event(explained),
     }
 }
 
@@ -72,6 +85,13 @@ fn line(number: u32) -> Option<LogLine>
     } else {
         Some(LogLine::Counted(number))
     }
+}
+
+// Whether a number says yes.
+fn is_set(number: u32) -> bool
+    ensures { result ≡ is_set number }
+{
+    number != 0
 }
 
 // How stamps are written: 0 in two fields, 1 to 32 packed with so many bits for `c`, and any other number dotted.
@@ -100,68 +120,139 @@ fn receives_of(number: u32) -> Receives
     }
 }
 
-// How the records of a log are read by these numbers.
-pub(crate) fn records(
-    stamp_form: u32,
-    tolerance: u64,
-    receives: u32,
-    unsent_local: bool,
-) -> LogRules
-    ensures syntax { result.syntax ≡ Csv }
-    ensures form { IsFormOf stamp_form result.form }
-    ensures units { result.units ≡ None }
-    ensures tolerance { result.tolerance ≡ tolerance }
-    ensures receives { result.receives ≡ receives_of receives }
-    ensures unsent { result.unsent_local ≡ unsent_local }
-    ensures resent { result.resent ≡ None }
-    ensures faults { result.faults ≡ First }
+// Which send of a message that is sent again receives are of: 0 it isn't said, 1 the first, and any other number the last.
+fn resent_of(number: u32) -> Option<Resent>
+    ensures { result ≡ resent_of number }
 {
-    LogRules {
-        syntax: RecordSyntax::Csv,
-        form: form(stamp_form),
-        units: None,
-        tolerance,
-        receives: receives_of(receives),
-        unsent_local,
-        resent: None,
-        faults: FaultRule::First,
+    if number == 0 {
+        None
+    } else if number == 1 {
+        Some(Resent::First)
+    } else {
+        Some(Resent::Last)
     }
 }
 
-// The rules of an audit of which these are the numbers.
-pub(crate) fn rules(
-    stamp_form: u32,
-    tolerance: u64,
-    receives: u32,
-    unsent_local: bool,
+// What becomes of bad records: 0 the first ends the reading, 1 they are left out, and any other number each is told.
+fn fault_rule(number: u32) -> FaultRule
+    ensures { result ≡ fault_rule_of number }
+{
+    if number == 0 {
+        FaultRule::First
+    } else if number == 1 {
+        FaultRule::LeaveOut
+    } else {
+        FaultRule::TellEach
+    }
+}
+
+// A unit of clocks: 1 seconds, 2 milliseconds, 3 microseconds, and any other number nanoseconds.
+fn clock_unit(number: u32) -> TimeUnit
+    ensures { result ≡ clock_unit_of number }
+{
+    if number == 1 {
+        TimeUnit::Seconds
+    } else if number == 2 {
+        TimeUnit::Milliseconds
+    } else if number == 3 {
+        TimeUnit::Microseconds
+    } else {
+        TimeUnit::Nanoseconds
+    }
+}
+
+// A unit of `l`: below 5 one of clocks, and that of NTP from there on.
+fn l_unit(number: u32) -> TimeUnit
+    ensures { result ≡ l_unit_of number }
+{
+    if number < 5 {
+        clock_unit(number)
+    } else {
+        TimeUnit::Ntp64
+    }
+}
+
+// The units of readings and of `l`: with 0 for one of them there are none.
+fn units(reading: u32, l: u32) -> Option<Units>
+    ensures { result ≡ units_of reading l }
+{
+    if reading == 0 || l == 0 {
+        return None;
+    }
+    Some(Units {
+        reading: clock_unit(reading),
+        l: l_unit(l),
+    })
+}
+
+// In which syntax the records are: 0 in CSV, and any other number as lines of JSON.
+fn syntax(number: u32) -> RecordSyntax
+    ensures { result ≡ syntax_of number }
+{
+    if number == 0 {
+        RecordSyntax::Csv
+    } else {
+        RecordSyntax::JsonLines
+    }
+}
+
+// How the records of a log are read by its numbers.
+pub(crate) fn records(log: &PageLog<'_>) -> LogRules
+    ensures { AreRecordsOf log.now result }
+{
+    LogRules {
+        syntax: syntax(log.jsonl),
+        form: form(log.stamp_form),
+        units: units(log.reading_unit, log.l_unit),
+        tolerance: log.tolerance,
+        receives: receives_of(log.receives),
+        unsent_local: is_set(log.unsent_local),
+        resent: resent_of(log.resent),
+        faults: fault_rule(log.faults),
+    }
+}
+
+// The form of an audit's output: 0 rows of CSV, 1 one object of JSON, and any other number text.
+fn output(number: u32) -> OutputForm
+    ensures { result ≡ output_of number }
+{
+    if number == 0 {
+        OutputForm::Csv
+    } else if number == 1 {
+        OutputForm::Json
+    } else {
+        OutputForm::Text
+    }
+}
+
+// How a log is audited by these numbers: not strictly, since the status tells broken stamps in any case.
+pub(crate) fn auditing(
+    log: &PageLog<'_>,
     drift_limit: u64,
     report: bool,
-) -> AuditRules
-    ensures { AreRulesOf stamp_form tolerance receives unsent_local drift_limit report result }
+    grouped: bool,
+    output_form: u32,
+) -> AuditOptions
+    ensures { AreAuditOptionsOf log.now drift_limit report grouped output_form result }
 {
-    AuditRules {
-        records: records(stamp_form, tolerance, receives, unsent_local),
+    AuditOptions {
+        records: records(log),
+        strict: false,
         limit: limit(drift_limit),
         report,
+        groups: grouped,
+        output: output(output_form),
     }
 }
 
 // How a log is drawn by these numbers.
-pub(crate) fn drawing(
-    stamp_form: u32,
-    tolerance: u64,
-    receives: u32,
-    unsent_local: bool,
-    explained: u32,
-    from: u32,
-    to: u32,
-) -> DrawLogOptions
-    ensures { AreDrawingOf stamp_form tolerance receives unsent_local (part_between explained from to) result }
+pub(crate) fn drawing(log: &PageLog<'_>, explained: u32, from: u32, to: u32) -> DrawLogOptions
+    ensures { AreDrawingOf log.now (part_between explained from to) result }
 {
     DrawLogOptions {
-        records: records(stamp_form, tolerance, receives, unsent_local),
-        part: LogPart::Rows {
-            rows: LogRows::Between {
+        records: records(log),
+        part: DrawnPart::Rows {
+            rows: DrawnRows::Between {
                 from: line(from),
                 to: line(to),
             },
@@ -172,25 +263,22 @@ pub(crate) fn drawing(
 
 // How so many rows of a log about an event are drawn by these numbers, or with 0 rows its chain alone.
 pub(crate) fn drawing_around(
-    stamp_form: u32,
-    tolerance: u64,
-    receives: u32,
-    unsent_local: bool,
+    log: &PageLog<'_>,
     explained: u32,
     about: u32,
     rows: u32,
 ) -> DrawLogOptions
-    ensures { AreDrawingOf stamp_form tolerance receives unsent_local (part_around explained about rows) result }
+    ensures { AreDrawingOf log.now (part_around explained about rows) result }
 {
-    let records = records(stamp_form, tolerance, receives, unsent_local);
+    let records = records(log);
     let part = if rows == 0 {
-        LogPart::Chain {
-            line: LogLine::Counted(about),
+        DrawnPart::Chain {
+            event: LogLine::Counted(about),
         }
     } else {
-        LogPart::Rows {
-            rows: LogRows::Around {
-                line: LogLine::Counted(about),
+        DrawnPart::Rows {
+            rows: DrawnRows::Around {
+                event: LogLine::Counted(about),
                 rows,
             },
             explained: line(explained),

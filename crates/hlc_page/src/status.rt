@@ -1,7 +1,9 @@
 ghost use Rattle.std.specs.Prelude.{◌≡◌, ◌↔◌, ◌∷◌, []};
 ghost use Rattle.hlc_csv.specs.declared.records_fault.RecordsFault.TheVariants as records;
 ghost use Rattle.hlc_command_fault.specs.declared.command_fault.CommandFault.TheVariants as stop;
+ghost use Rattle.hlc_page.specs.declared.page_fault.PageFault.TheVariants as page;
 
+use crate::page_fault::PageFault;
 use hlc_command_fault::CommandFault;
 use hlc_csv::RecordsFault;
 
@@ -20,7 +22,7 @@ pub const PAGE_BAD_LOG: u32 = 3;
 /// The room is too small for the answer, whose length is told.
 pub const PAGE_ROOM: u32 = 4;
 
-/// The settings are out of their limits.
+/// The settings are out of their limits; or of a log, a text says nothing of how lines of JSON are read, or asks nothing.
 pub const PAGE_SETTINGS: u32 = 5;
 
 /// The text has more records than are taken.
@@ -48,5 +50,16 @@ pub(crate) fn status(fault: CommandFault) -> u32
     match fault {
         CommandFault::Records(RecordsFault::TooLong) => PAGE_TOO_LONG,
         _ => PAGE_MEMORY,
+    }
+}
+
+// The status of a fault in what a page gives.
+pub(crate) fn given_status(fault: PageFault) -> u32
+    ensures settings { result ≡ PAGE_SETTINGS ↔ fault ≡ page.Mistake }
+    ensures memory { result ≡ PAGE_MEMORY ↔ ¬ (fault ≡ page.Mistake) }
+{
+    match fault {
+        PageFault::Mistake => PAGE_SETTINGS,
+        PageFault::Memory => PAGE_MEMORY,
     }
 }

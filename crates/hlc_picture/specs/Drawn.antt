@@ -41,6 +41,7 @@ content_of h = record {
   events = causality_of h.events;
   stamps = stamps_of h.events;
   legend = LEGEND.now;
+  whole_name = λ node. codes "node " ++ decimal node;
   name = λ node. codes "node " ++ decimal node;
   number = λ e. e;
   shown = λ e. e;

@@ -52,8 +52,12 @@ impl<'a> Subject for PicturedHistory<'a> {
         text.push_str(LEGEND)
     }
 
-    fn put_name(&self, text: &mut String, node: NodeId) -> Result<(), AllocError> {
+    fn put_whole_name(&self, text: &mut String, node: NodeId) -> Result<(), AllocError> {
         write!(text, "node {}", node.0)
+    }
+
+    fn put_name(&self, text: &mut String, node: NodeId) -> Result<(), AllocError> {
+        self.put_whole_name(text, node)
     }
 
     fn number(&self, event: EventId) -> u32 {

@@ -6,7 +6,7 @@ use hlc_command_line::{LineFault, order};
 use std::process::Abort;
 
 // Lines with their orders, as `Debug` shows them. A question may be asked more than once; each value of `--ask` is one record.
-static ORDERS: [(&str, &str); 34] = [
+static ORDERS: [(&str, &str); 36] = [
     (
         "hlc run --nodes 2 --capacity 1",
         "Run(Settings { nodes: 2, capacity: 1, limit: None })",
@@ -25,19 +25,27 @@ static ORDERS: [(&str, &str); 34] = [
     ),
     (
         "hlc draw --nodes 2 --capacity 16",
-        "Draw { settings: Settings { nodes: 2, capacity: 16, limit: None }, part: Events { explained: None, from: None, to: None } }",
+        "Draw { settings: Settings { nodes: 2, capacity: 16, limit: None }, part: Rows { rows: Between { from: None, to: None }, explained: None } }",
     ),
     (
         "hlc draw --to 9 --from 7 --explain 8 --limit 5 --capacity 16 --nodes 2",
-        "Draw { settings: Settings { nodes: 2, capacity: 16, limit: Some(5) }, part: Events { explained: Some(EventId(8)), from: Some(EventId(7)), to: Some(EventId(9)) } }",
+        "Draw { settings: Settings { nodes: 2, capacity: 16, limit: Some(5) }, part: Rows { rows: Between { from: Some(EventId(7)), to: Some(EventId(9)) }, explained: Some(EventId(8)) } }",
     ),
     (
         "hlc draw --nodes 2 --capacity 16 --explain 0 --from 16777216 --to 16777216",
-        "Draw { settings: Settings { nodes: 2, capacity: 16, limit: None }, part: Events { explained: Some(EventId(0)), from: Some(EventId(16777216)), to: Some(EventId(16777216)) } }",
+        "Draw { settings: Settings { nodes: 2, capacity: 16, limit: None }, part: Rows { rows: Between { from: Some(EventId(16777216)), to: Some(EventId(16777216)) }, explained: Some(EventId(0)) } }",
     ),
     (
         "hlc draw --only-chain --nodes 2 --capacity 16 --explain 8",
         "Draw { settings: Settings { nodes: 2, capacity: 16, limit: None }, part: Chain { event: EventId(8) } }",
+    ),
+    (
+        "hlc draw --nodes 2 --capacity 16 --around 16777216 --explain 8",
+        "Draw { settings: Settings { nodes: 2, capacity: 16, limit: None }, part: Rows { rows: Around { event: EventId(16777216), rows: 40 }, explained: Some(EventId(8)) } }",
+    ),
+    (
+        "hlc draw --nodes 2 --rows 4294967295 --around 7 --capacity 16",
+        "Draw { settings: Settings { nodes: 2, capacity: 16, limit: None }, part: Rows { rows: Around { event: EventId(7), rows: 4294967295 }, explained: None } }",
     ),
     ("hlc judge", "Judge"),
     (
@@ -46,15 +54,15 @@ static ORDERS: [(&str, &str); 34] = [
     ),
     (
         "hlc draw-log --around +a:b:7 --explain 3",
-        "DrawLog { options: DrawLogOptions { records: LogRules { syntax: Csv, form: Pair, units: None, tolerance: 0, receives: Tick, unsent_local: false, resent: None, faults: First }, part: Rows { rows: Around { line: Located(Location { file: Some([43, 97, 58, 98]), line: 7 }), rows: 40 }, explained: Some(Located(Location { file: None, line: 3 })) } }, json: None }",
+        "DrawLog { options: DrawLogOptions { records: LogRules { syntax: Csv, form: Pair, units: None, tolerance: 0, receives: Tick, unsent_local: false, resent: None, faults: First }, part: Rows { rows: Around { event: Located(Location { file: Some([43, 97, 58, 98]), line: 7 }), rows: 40 }, explained: Some(Located(Location { file: None, line: 3 })) } }, json: None }",
     ),
     (
         "hlc draw-log --rows 1 --around 18446744073709551615",
-        "DrawLog { options: DrawLogOptions { records: LogRules { syntax: Csv, form: Pair, units: None, tolerance: 0, receives: Tick, unsent_local: false, resent: None, faults: First }, part: Rows { rows: Around { line: Located(Location { file: None, line: 18446744073709551615 }), rows: 1 }, explained: None } }, json: None }",
+        "DrawLog { options: DrawLogOptions { records: LogRules { syntax: Csv, form: Pair, units: None, tolerance: 0, receives: Tick, unsent_local: false, resent: None, faults: First }, part: Rows { rows: Around { event: Located(Location { file: None, line: 18446744073709551615 }), rows: 1 }, explained: None } }, json: None }",
     ),
     (
         "hlc draw-log --only-chain --explain 3",
-        "DrawLog { options: DrawLogOptions { records: LogRules { syntax: Csv, form: Pair, units: None, tolerance: 0, receives: Tick, unsent_local: false, resent: None, faults: First }, part: Chain { line: Located(Location { file: None, line: 3 }) } }, json: None }",
+        "DrawLog { options: DrawLogOptions { records: LogRules { syntax: Csv, form: Pair, units: None, tolerance: 0, receives: Tick, unsent_local: false, resent: None, faults: First }, part: Chain { event: Located(Location { file: None, line: 3 }) } }, json: None }",
     ),
     (
         "hlc audit",

@@ -5,7 +5,7 @@ ghost use Rattle.hlc_stamp.specs.declared.limits.TheConstants.{MAX_CAPACITY};
 
 use hlc_causality::Receives;
 use hlc_cli::CommandFault;
-use hlc_command_line::{DrawLogOptions, LogPart, LogRows};
+use hlc_command_line::{DrawLogOptions, DrawnPart, DrawnRows};
 use hlc_log_commands::draw_log_up_to;
 use hlc_log_text::{FaultRule, LogRules, NameKey, RecordSyntax, StampForm};
 use std::alloc::Global;
@@ -27,8 +27,8 @@ fn all_rows() -> DrawLogOptions {
             resent: None,
             faults: FaultRule::First,
         },
-        part: LogPart::Rows {
-            rows: LogRows::Between {
+        part: DrawnPart::Rows {
+            rows: DrawnRows::Between {
                 from: None,
                 to: None,
             },

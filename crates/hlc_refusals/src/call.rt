@@ -45,7 +45,7 @@ const VALUE: &str = "a value of more than 22 bytes";
 
 const SCRIPT: &str =
     "write,0,10,a,x\nsend,0,10,1,a\nwrite,1,10,b,y\ndeliver,1,10,1\nexplain,3\ncheck,3,0,1,3\nrelation,0,3\n\
-    influenced,0\ndrift,1\nsnapshot,10,1,1\ntable,1\ninbox,1\nget,1,b\npull,1,11,c,z\nlose,1\nwrite,0\nerase,0,11,a\nget,0,a\n";
+    influenced,0\nwhy,0,3\ntainted,0\ndrift,1\nsnapshot,10,1,1\ntable,1\ninbox,1\nget,1,b\npull,1,11,c,z\nlose,1\nwrite,0\nerase,0,11,a\nget,0,a\n";
 
 const TRACE: &str =
     "send,0,10,10,0\nreceive,1,5,0,10,1\nlocal,1,5,4,9\nlocal,1,5,10,2\nlocal,1,6,10,2\nlocal,0,9,11,0\n";

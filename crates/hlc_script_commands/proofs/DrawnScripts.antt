@@ -1,5 +1,5 @@
 -- What is drawn of a script.
-use Rattle.std.proofs.Common.{◌≡◌, ◌∙◌, ◌⊎◌, ℕ, List, Option, Some, ap, length, map, subst, sym}
+use Rattle.std.proofs.Common.{◌≡◌, ◌∙◌, ℕ, List, Option, ap, length, map, subst, sym}
 use Rattle.std.specs.Io.KnownBytes.{Appends}
 use Rattle.hlc_stamp.specs.declared.id.EventId.{EventId}
 use Rattle.hlc_stamp.specs.declared.limits.TheConstants.{MAX_RECORDS}
@@ -7,19 +7,19 @@ use Rattle.hlc_stamp.specs.declared.settings.Settings.{Settings}
 use Rattle.hlc_arena.specs.Arena.{history_of}
 use Rattle.hlc_arena.specs.History.{History, stamps_of}
 use Rattle.hlc_arena.specs.ClockRule.{HasLeastStamps}
-use Rattle.hlc_diagram.specs.ChainPicture.{chain_picture_text}
-use Rattle.hlc_diagram.specs.Chosen.{IsMissing}
-use Rattle.hlc_picture.specs.Drawn.{drawn_chain, drawn_with}
+use Rattle.hlc_picture.specs.Drawn.{drawn_with}
 use Rattle.hlc_diagram.specs.Picture.{picture_text}
-use Rattle.hlc_diagram.specs.View.{view_between}
 use Rattle.hlc_diagram.specs.declared.undelivered.Undelivered.{Undelivered}
 use Rattle.hlc_diagram.specs.declared.view.View.{View}
 use Rattle.hlc_text.specs.Run.{Finished, FinishedNoting}
 use Rattle.hlc_text.specs.declared.ran.Ran.{Ran}
 use Rattle.hlc_text.specs.declared.undelivered.Undelivered.{Undelivered as LeftUndelivered}
+use Rattle.hlc_command_line.specs.declared.drawn_part.DrawnPart.{DrawnPart}
+use Rattle.hlc_command_line.specs.declared.drawn_part.DrawnPart.TheVariants.{Rows}
+use Rattle.hlc_command_line.specs.declared.drawn_part.DrawnRows.{DrawnRows}
 use Rattle.hlc_command_fault.specs.declared.no_events.NoEvents.{NoEvents}
 use Rattle.hlc_script_commands.specs.NoEvents.{IsNoteOn, note_of}
-use Rattle.hlc_script_commands.specs.Drawn.{IsChainDrawn, IsChainDrawnWhole, IsChainDrawnWithout, IsDrawnWhole, IsDrawnWithout, IsScriptDrawn, LeavesHistory, LeavesUndelivered, pictured_message}
+use Rattle.hlc_script_commands.specs.Drawn.{IsDrawnWhole, IsDrawnWithout, IsScriptDrawn, LacksNamed, LeavesHistory, LeavesUndelivered, part_text, pictured_message, view_of}
 
 -- a run to the end says which history its script leaves
 abbrev pub script_leaves : (settings : Settings) (bytes before after : Option (List ℕ)) (ran : Ran)
@@ -53,41 +53,25 @@ script_leaves_undelivered settings bytes before after ran notes messages (run, n
     (script_leaves settings bytes before after ran run, are ∙ ap (map pictured_message) noted)
 
 -- what is drawn of a script that leaves this
-module _ (settings : Settings) (explained from to : Option EventId) (given : View) (input before after : Option (List ℕ))
-    (history : History) (messages : List Undelivered) (left : LeavesUndelivered settings input history messages)
-    (same : given ≡ view_between from to explained)
-    (text : Appends before after (picture_text (drawn_with history given messages))) where
-  abbrev script_is_drawn : IsScriptDrawn settings (view_between from to explained) input before after
+module _ (settings : Settings) (part : DrawnPart EventId) (input before after : Option (List ℕ)) (history : History) (messages : List Undelivered)
+    (left : LeavesUndelivered settings input history messages) (text : Appends before after (part_text history messages part)) where
+  abbrev script_is_drawn : IsScriptDrawn settings part input before after
   script_is_drawn = record {
     history = history;
     script = left.0;
-    picture = subst (λ (ms : List Undelivered). Appends before after (picture_text (drawn_with history (view_between from to explained) ms))) left.1
-        (subst (λ (v : View). Appends before after (picture_text (drawn_with history v messages))) same text);
+    picture = subst (λ (ms : List Undelivered). Appends before after (part_text history ms part)) left.1 text;
   }
 
-  pub drawn_whole : (¬ IsMissing history.events given.explained) → (¬ IsMissing history.events from)
-      → IsDrawnWhole settings explained from to input before after
-  drawn_whole has_explained has_first =
-      (script_is_drawn, subst (λ (v : View). ¬ IsMissing history.events v.explained) same has_explained, has_first)
+  pub drawn_whole : (¬ LacksNamed history part) → IsDrawnWhole settings part input before after
+  drawn_whole has = (script_is_drawn, has)
 
-  pub drawn_without : (IsMissing history.events given.explained ⊎ IsMissing history.events from)
-      → IsDrawnWithout settings explained from to input before after
-  drawn_without lacks =
-      (script_is_drawn, subst (λ (v : View). IsMissing history.events v.explained ⊎ IsMissing history.events from) same lacks)
+  pub drawn_without : LacksNamed history part → IsDrawnWithout settings part input before after
+  drawn_without lacks = (script_is_drawn, lacks)
 
--- what is drawn of the chain of an event of such a history
-module _ (settings : Settings) (event : EventId) (input before after : Option (List ℕ)) (history : History)
-    (script : LeavesHistory settings input history)
-    (text : Appends before after (chain_picture_text (drawn_chain history event))) where
-  abbrev chain_is_drawn : IsChainDrawn settings event input before after
-  chain_is_drawn = record {
-    history = history;
-    script = script;
-    picture = text;
-  }
-
-  pub chain_drawn_whole : (¬ IsMissing history.events (Some event)) → IsChainDrawnWhole settings event input before after
-  chain_drawn_whole has_event = (chain_is_drawn, has_event)
-
-  pub chain_drawn_without : IsMissing history.events (Some event) → IsChainDrawnWithout settings event input before after
-  chain_drawn_without lacks = (chain_is_drawn, lacks)
+-- the picture of a view of some rows is that of the rows
+pub rows_text : (history : History) (messages : List Undelivered) (rows : DrawnRows EventId) (explained : Option EventId) (view : View) (count : ℕ)
+    (before after : Option (List ℕ)) → view ≡ view_of count rows explained → count ≡ length history.events
+    → Appends before after (picture_text (drawn_with history view messages)) → Appends before after (part_text history messages (Rows rows explained))
+rows_text history messages rows explained view count before after view_is count_is text =
+    subst (λ (v : View). Appends before after (picture_text (drawn_with history v messages)))
+    (view_is ∙ ap (λ (n : ℕ). view_of n rows explained) count_is) text

@@ -1,5 +1,5 @@
 -- What was drawn.
-use Rattle.std.specs.Prelude.{◌≡◌, ◌≤◌, ◌⊎◌, ℕ, List, Option, Some, length, map}
+use Rattle.std.specs.Prelude.{◌≡◌, ◌≤◌, ◌⊎◌, ℕ, List, None, Option, Some, if◌then◌else◌, length, map, nat_lt}
 use Rattle.std.specs.Io.KnownBytes.{Appends}
 use Rattle.hlc_stamp.specs.Order.{Pair}
 use Rattle.hlc_stamp.specs.declared.id.EventId.{EventId}
@@ -11,7 +11,7 @@ use Rattle.hlc_diagram.specs.ChainPicture.{chain_picture_text}
 use Rattle.hlc_diagram.specs.Chosen.{IsMissing}
 use Rattle.hlc_picture.specs.Drawn.{drawn_chain, drawn_with}
 use Rattle.hlc_diagram.specs.Picture.{picture_text}
-use Rattle.hlc_diagram.specs.View.{view_between}
+use Rattle.hlc_diagram.specs.View.{view_around, view_between}
 use Rattle.hlc_diagram.specs.declared.undelivered.Undelivered.{Undelivered}
 use Rattle.hlc_diagram.specs.declared.view.View.{View}
 use Rattle.hlc_csv.specs.Records.{AreAllOf, IsOnly}
@@ -19,6 +19,11 @@ use Rattle.hlc_csv.specs.Rows.{Fields}
 use Rattle.hlc_text.specs.Script.{first_state, state_after}
 use Rattle.hlc_text.specs.Undelivered.{undelivered_in}
 use Rattle.hlc_text.specs.declared.undelivered.Undelivered.{Undelivered as LeftUndelivered}
+use Rattle.hlc_command_line.specs.DrawnPart.{event_of_rows}
+use Rattle.hlc_command_line.specs.declared.drawn_part.DrawnPart.{DrawnPart}
+use Rattle.hlc_command_line.specs.declared.drawn_part.DrawnPart.TheVariants.{Chain, Rows}
+use Rattle.hlc_command_line.specs.declared.drawn_part.DrawnRows.{DrawnRows}
+use Rattle.hlc_command_line.specs.declared.drawn_part.DrawnRows.TheVariants.{Around, Between}
 use Rattle.hlc_command_fault.specs.declared.command_fault.CommandFault.{CommandFault}
 use Rattle.hlc_command_fault.specs.declared.command_fault.CommandFault.TheVariants as stop
 
@@ -53,46 +58,37 @@ undelivered_by_script {settings = settings} script = map pictured_message (undel
 abbrev pub LeavesUndelivered : Settings → (bytes : Option (List ℕ)) → History → List Undelivered → Type 0
 LeavesUndelivered settings bytes history messages = (script : LeavesHistory settings bytes history) × (messages ≡ undelivered_by_script script)
 
--- the input is a script, and the output got the picture of the history that it leaves, in which the messages that it leaves undelivered are crossed out
-pub record IsScriptDrawn (settings : Settings) (view : View) (input before after : Option (List ℕ)) : Type 0 where
+-- of so many events these rows are seen, and the chain of this event: no row if those about an event are to be drawn that isn't there
+abbrev pub view_of : (count : ℕ) → DrawnRows EventId → (explained : Option EventId) → View
+view_of count (Between first last) explained = view_between first last explained
+view_of count (Around event rows) explained =
+    if nat_lt event.0 count then view_around event rows count explained else view_between (Some event) None explained
+
+-- an event is named that a history doesn't have: the one to explain, or that of the rows
+abbrev pub LacksNamed : History → DrawnPart EventId → Type 0
+LacksNamed history (Rows rows explained) = IsMissing history.events explained ⊎ IsMissing history.events (event_of_rows rows)
+LacksNamed history (Chain event) = IsMissing history.events (Some event)
+
+-- the picture of a part of a history: of some rows, in which these messages are crossed out, or of the chain of an event and of nothing else
+abbrev pub part_text : History → (undelivered : List Undelivered) → DrawnPart EventId → List ℕ
+part_text history undelivered (Rows rows explained) = picture_text (drawn_with history (view_of (length history.events) rows explained) undelivered)
+part_text history undelivered (Chain event) = chain_picture_text (drawn_chain history event)
+
+-- the input is a script, and the output got the picture of a part of the history that it leaves, with the messages that it leaves undelivered
+pub record IsScriptDrawn (settings : Settings) (part : DrawnPart EventId) (input before after : Option (List ℕ)) : Type 0 where
   pub history : History
   pub script : LeavesHistory settings input history
-  pub picture : Appends before after (picture_text (drawn_with history view (undelivered_by_script script)))
+  pub picture : Appends before after (part_text history (undelivered_by_script script) part)
 
--- it has the event to explain and the first one that is drawn, if they are named
-abbrev pub IsDrawnWhole : Settings → (explained from to : Option EventId) → (input before after : Option (List ℕ)) → Type 0
-IsDrawnWhole settings explained from to input before after =
-    (d : IsScriptDrawn settings (view_between from to explained) input before after)
-    × (¬ IsMissing d.history.events explained) × (¬ IsMissing d.history.events from)
+-- the history has the events that are named
+abbrev pub IsDrawnWhole : Settings → DrawnPart EventId → (input before after : Option (List ℕ)) → Type 0
+IsDrawnWhole settings part input before after = (d : IsScriptDrawn settings part input before after) × (¬ LacksNamed d.history part)
 
--- one of them is named that it doesn't have
-abbrev pub IsDrawnWithout : Settings → (explained from to : Option EventId) → (input before after : Option (List ℕ)) → Type 0
-IsDrawnWithout settings explained from to input before after =
-    (d : IsScriptDrawn settings (view_between from to explained) input before after)
-    × (IsMissing d.history.events explained ⊎ IsMissing d.history.events from)
+-- it lacks one of them
+abbrev pub IsDrawnWithout : Settings → DrawnPart EventId → (input before after : Option (List ℕ)) → Type 0
+IsDrawnWithout settings part input before after = (d : IsScriptDrawn settings part input before after) × LacksNamed d.history part
 
 -- the script was drawn but for this fault, of which the picture tells
-abbrev pub IsDrawnBut : CommandFault → Settings → (explained from to : Option EventId) → (input before after : Option (List ℕ)) → Type 0
-IsDrawnBut stop.NoEvent settings explained from to input before after = IsDrawnWithout settings explained from to input before after
-IsDrawnBut _ settings explained from to input before after = ⊥
-
--- the input is a script, and the output got the picture of the chain of an event of the history that it leaves, and of nothing else
-pub record IsChainDrawn (settings : Settings) (event : EventId) (input before after : Option (List ℕ)) : Type 0 where
-  pub history : History
-  pub script : LeavesHistory settings input history
-  pub picture : Appends before after (chain_picture_text (drawn_chain history event))
-
--- it has the event
-abbrev pub IsChainDrawnWhole : Settings → (event : EventId) → (input before after : Option (List ℕ)) → Type 0
-IsChainDrawnWhole settings event input before after =
-    (d : IsChainDrawn settings event input before after) × (¬ IsMissing d.history.events (Some event))
-
--- it doesn't have the event
-abbrev pub IsChainDrawnWithout : Settings → (event : EventId) → (input before after : Option (List ℕ)) → Type 0
-IsChainDrawnWithout settings event input before after =
-    (d : IsChainDrawn settings event input before after) × IsMissing d.history.events (Some event)
-
--- the chain was drawn but for this fault, of which the picture tells
-abbrev pub IsChainDrawnBut : CommandFault → Settings → (event : EventId) → (input before after : Option (List ℕ)) → Type 0
-IsChainDrawnBut stop.NoEvent settings event input before after = IsChainDrawnWithout settings event input before after
-IsChainDrawnBut _ settings event input before after = ⊥
+abbrev pub IsDrawnBut : CommandFault → Settings → DrawnPart EventId → (input before after : Option (List ℕ)) → Type 0
+IsDrawnBut stop.NoEvent settings part input before after = IsDrawnWithout settings part input before after
+IsDrawnBut _ settings part input before after = ⊥

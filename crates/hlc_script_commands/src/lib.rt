@@ -4,12 +4,12 @@
 //! Each is a function over a reader and a writer, and answers with the fault that stopped it.
 //!
 //! - `run_script` answers a script, as `hlc run` does.
-//! - `draw_script` and `draw_script_chain` draw the history that it leaves, as `hlc draw` does, or one chain of it.
+//! - `draw_script` draws a part of the history that it leaves, as `hlc draw` does.
 //! - `trace_script` writes that history as a log, as `hlc trace` does.
-//! - `NoEvents` is what these three note of a script that has records, but leaves no event.
+//! - `NoEvents` is what these two note of a script that has records, but leaves no event.
 //! - `print_storm` prints the script that is drawn from a seed, as `hlc storm` does.
 //!
-//! It reads no command line: `hlc_command_line` does. Except where a script is answered, nothing is written before all of it was read.
+//! It reads no command line: `hlc_command_line` does, which has the type that says what is drawn. Except where a script is answered, nothing is written before all of it was read.
 #![tactic(auto)]
 
 mod answered_script;
@@ -21,7 +21,7 @@ mod script_stop;
 mod traced_script;
 
 pub use answered_script::run_script;
-pub use drawn_script::{draw_script, draw_script_chain};
+pub use drawn_script::draw_script;
 pub use hlc_command_fault::{CommandFault, NoEvents};
 pub use printed_storm::print_storm;
 pub use traced_script::trace_script;

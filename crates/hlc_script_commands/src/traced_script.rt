@@ -2,21 +2,43 @@
 
 ghost use Rattle.std.specs.Prelude.{◌≡◌, ◌↔◌, ◌⊎◌, IfErr, IfOk, IsErrOf, IsSome, OnOk};
 ghost use Rattle.std.specs.Io.KnownBytes.{Appends};
+ghost use Rattle.hlc_arena.specs.Arena.{history_of};
 ghost use Rattle.hlc_core.specs.State.{new_refusal};
 ghost use Rattle.hlc_command_fault.specs.Fault.{IsOfAnswer, IsOfInput};
-ghost use Rattle.hlc_script_commands.specs.Drawn.{IsScriptFor};
+ghost use Rattle.hlc_script_commands.specs.Drawn.{IsScriptFor, LeavesHistory};
 ghost use Rattle.hlc_script_commands.specs.NoEvents.{IsNoteOn};
 ghost use Rattle.hlc_script_commands.specs.TooLong.{IsScriptTooLong};
 ghost use Rattle.hlc_script_commands.specs.Traced.{IsScriptTraced, trace_text};
 
-use crate::drawn_script::history_by_script;
+use crate::no_events::note_on;
+use crate::nowhere::Nowhere;
+use crate::script_stop::stop_of_text;
 use hlc_arena::Arena;
 use hlc_command_fault::{CommandFault, NoEvents};
 use hlc_csv::{OutputFault, RecordsFault};
 use hlc_history_log::{write_log, write_vectors};
 use hlc_stamp::Settings;
+use hlc_text::{Ran, run};
 use std::alloc::Global;
 use std::io::{Read, Write};
+
+// The history that a script leaves, and the note on it.
+fn history_by_script<I: Read + Drop>(
+    alloc: Global,
+    reader: I,
+    settings: Settings,
+) -> Result<(Arena, Option<NoEvents>), CommandFault>
+    ensures left { IfOk result (λ left. LeavesHistory settings (I.remaining reader) (history_of left.0)) }
+    ensures noted { IfOk result (λ left. IsNoteOn settings (I.remaining reader) left.1) }
+    ensures untold { IfErr result (λ fault. ¬ IsOfAnswer fault) }
+    ensures too_long { IsErrOf result (CommandFault.Records RecordsFault.TooLong) → IsScriptTooLong (I.remaining reader) }
+    ensures settings { IsErrOf result CommandFault.Settings ↔ IsSome (new_refusal settings.nodes settings.capacity) }
+{
+    match run(alloc, reader, &mut Nowhere, settings) {
+        Ok(Ran { history, counts }) => Ok((history, note_on(counts))),
+        Err(fault) => Err(stop_of_text(fault)),
+    }
+}
 
 // Writes a history as a log, with the vectors of its events or without.
 fn write_trace<O: Write>(

@@ -155,6 +155,18 @@ influenced,1
 > influenced,1,2,3,4,5
 influenced,6
 > refused,no-event
+why,1,5
+> path,1,5,1,4,5
+why,5,1
+> path,5,1,none
+why,0,6
+> refused,no-event
+tainted,0
+> tainted,0,0,1,2,3,4,5
+tainted,1
+> tainted,1
+tainted,6
+> refused,no-event
 drift,1
 > drift,1,0,2,0
 drift,2
@@ -191,7 +203,7 @@ static COUNTED: [Script; 4] = [
     (SCRIPT, SETTINGS, 23, 4, 19),
     (TWICE, SETTINGS, 6, 4, 0),
     (QUOTED, SETTINGS, 6, 2, 1),
-    (EACH_ANSWER, LIMIT_0, 38, 6, 19),
+    (EACH_ANSWER, LIMIT_0, 44, 6, 21),
 ];
 
 const ROW: &str = "> ";

@@ -85,7 +85,8 @@ module _ (frame : Frame) (dot : Dot) (node e : ℕ) (stands : StandsAt frame dot
       ]
 
 module _ (a : Route) (room : 2 * a.frame.half < a.frame.lane_distance)
-    (around : a.frame.half + AROUND + a.frame.half ≤ a.frame.lane_distance) where
+    (around : a.frame.half + AROUND + a.frame.half ≤ a.frame.lane_distance) (outer : a.frame.half ≤ a.reach)
+    (inner : a.reach + a.frame.half ≤ a.frame.lane_distance) where
   lanes_right : a.from.0 < a.to.0 → lanes_of a ≡ a.to.0 - a.from.0
   lanes_right lt = omega arith
 
@@ -117,7 +118,7 @@ module _ (a : Route) (room : 2 * a.frame.half < a.frame.lane_distance)
             (right_of_lane a.frame (a.from.0 + place) a.to.0 (a.from.0 + place) half wide narrow (omega arith) refl);
         comes = λ place within. subst (λ (node : ℕ). IsInGap a.frame (a.from.0 + place) (towards a.frame node a.from.0 half)) (lane_right lt (place + 1))
             (left_of_lane a.frame (a.from.0 + (place + 1)) a.from.0 (a.from.0 + place) half wide narrow (omega arith) (omega arith));
-        ends = λ place last. left_of_lane a.frame a.to.0 a.from.0 (a.from.0 + place) half wide narrow lt (omega arith);
+        ends = λ place last. left_of_lane a.frame a.to.0 a.from.0 (a.from.0 + place) a.reach outer inner lt (omega arith);
       }
 
   left_gaps : a.to.0 < a.from.0 → RunsInGaps (λ place. a.from.0 - (place + 1))
@@ -132,7 +133,7 @@ module _ (a : Route) (room : 2 * a.frame.half < a.frame.lane_distance)
             (left_of_lane a.frame (a.from.0 - place) a.to.0 (a.from.0 - (place + 1)) half wide narrow (omega arith) (omega arith));
         comes = λ place within. subst (λ (node : ℕ). IsInGap a.frame (a.from.0 - (place + 1)) (towards a.frame node a.from.0 half)) (lane_left lt (place + 1))
             (right_of_lane a.frame (a.from.0 - (place + 1)) a.from.0 (a.from.0 - (place + 1)) half wide narrow (omega arith) refl);
-        ends = λ place last. right_of_lane a.frame a.to.0 a.from.0 (a.from.0 - (place + 1)) half wide narrow (omega arith) (omega arith);
+        ends = λ place last. right_of_lane a.frame a.to.0 a.from.0 (a.from.0 - (place + 1)) a.reach outer inner (omega arith) (omega arith);
       }
 
   module _ (dot : Dot) (node e : ℕ) (stands : StandsAt a.frame dot node e) where
@@ -176,7 +177,7 @@ module _ (a : Route) (room : 2 * a.frame.half < a.frame.lane_distance)
         let wide_around : half ≤ half + AROUND = omega arith in
         let begins = right_of_lane a.frame a.from.0 a.to.0 gap half wide narrow (omega arith) refl in
         let goes = right_of_lane a.frame a.from.0 a.to.0 gap (half + AROUND) wide_around around (omega arith) refl in
-        let ends = right_of_lane a.frame a.to.0 a.from.0 gap half wide narrow (omega arith) (omega arith) in
+        let ends = right_of_lane a.frame a.to.0 a.from.0 gap a.reach outer inner (omega arith) (omega arith) in
         let line = line_in_gap a.frame dot node e stands gap in
         (line _ _ begins goes, (line _ _ goes goes, (line _ _ goes ends, tt)))
 

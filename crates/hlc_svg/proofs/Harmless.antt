@@ -20,7 +20,7 @@ harmless_piece piece h = (piece ∷ [], append-nil piece, All-cons IsPiece piece
 harmless_nil : IsHarmless []
 harmless_nil = ([], refl, All-nil IsPiece)
 
-harmless_append : (a b : List ℕ) → IsHarmless a → IsHarmless b → IsHarmless (a ++ b)
+pub harmless_append : (a b : List ℕ) → IsHarmless a → IsHarmless b → IsHarmless (a ++ b)
 harmless_append a b h k = (
   h.0 ++ k.0,
   flat_map-append (λ (piece : List ℕ). piece) h.0 k.0

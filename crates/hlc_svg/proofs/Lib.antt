@@ -1,6 +1,7 @@
 pub mod Added
 pub mod Clear
 pub mod CutDigits
+pub mod CutLabels
 pub mod Harmless
 pub mod Labels
 pub mod Numerals

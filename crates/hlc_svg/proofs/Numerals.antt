@@ -15,6 +15,10 @@ pub four_is : decimal 4 ≡ codes "4"
 unfolding digits
 four_is = refl
 
+pub seven_is : decimal 7 ≡ codes "7"
+unfolding digits
+seven_is = refl
+
 pub eleven_is : decimal 11 ≡ codes "11"
 unfolding digits
 eleven_is = refl

@@ -1,9 +1,11 @@
 -- How far shapes reach, and how the text of one is put together.
-use Rattle.std.proofs.Common.{◌≡◌, ◌∙◌, ℕ, List, ◌++◌, ap, append_assoc, arith, codes, sym}
+use Rattle.std.proofs.Common.{◌≡◌, ◌∙◌, ℕ, ◌+◌, ◌-◌, ◌*◌, ◌≤◌, List, ◌++◌, ap, append_assoc, arith, codes, sym}
 use Rattle.std.specs.Prelude.{decimal}
-use Rattle.hlc_svg.specs.Reach.{OutlinesAreWithin, RingsAreAround, RowsAreApart, RowsAreBelowTheBorder}
-use Rattle.hlc_svg.specs.Shapes.{hexagon, shape_text, top_text}
+use Rattle.std.proofs.lemmas.Nat.{mul-le}
+use Rattle.hlc_svg.specs.Reach.{DotsAreInRings, OutlinesAreWithin, RingsAreAround, RowsAreApart, RowsAreBelowTheBorder}
+use Rattle.hlc_svg.specs.Shapes.{hexagon, ring_corner, ring_half, shape_text, top_text}
 use Rattle.hlc_svg.proofs.Numerals.{eleven_is, zero_is}
+use Rattle.hlc_svg.specs.declared.dot.TheConstants.{RING}
 use Rattle.hlc_svg.specs.declared.look.Form.TheVariants.{Box, Dip, Hexagon, Peak, Pill, Slant}
 
 pub outlines_are_within : OutlinesAreWithin
@@ -22,6 +24,15 @@ outlines_are_within Dip half =
 
 pub rings_are_around : RingsAreAround
 rings_are_around half = (omega arith, (omega arith, omega arith))
+
+square_bound : (n most : ℕ) → n ≤ most → n * n ≤ most * most
+square_bound n most le = mul-le n n most most le le
+
+pub dots_are_in_rings : DotsAreInRings
+dots_are_in_rings half x y across down =
+    let one : x - (half + RING - ring_corner) ≤ 4 = omega arith in
+    let other : y - (ring_half - ring_corner) ≤ 4 = omega arith in
+    (omega arith, omega arith, omega (arith, square_bound _ 4 one, square_bound _ 4 other))
 
 pub rows_are_apart : RowsAreApart
 rows_are_apart row = omega arith

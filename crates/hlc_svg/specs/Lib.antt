@@ -1,5 +1,6 @@
 pub mod Characters
 pub mod Clear
+pub mod CutLabel
 pub mod Frame
 pub mod Label
 pub mod LabelLaws

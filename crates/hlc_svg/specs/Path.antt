@@ -26,12 +26,12 @@ crossing_y a place = row_y a.from_row + ROW * ((a.to_row - a.from_row) * place /
 abbrev pub end_y : Route → ℕ
 end_y a = row_y a.to_row + a.below
 
--- an arrow begins and ends beside the lanes, where dots on them would end
+-- an arrow begins beside a lane, where a dot on it would end, and ends so far beside another
 abbrev pub arrow_start : Route → Point
 arrow_start a = beside a.frame a.from.0 a.to.0 (row_y a.from_row)
 
 abbrev pub arrow_end : Route → Point
-arrow_end a = beside a.frame a.to.0 a.from.0 (end_y a)
+arrow_end a = record { x = towards a.frame a.to.0 a.from.0 a.reach; y = end_y a }
 
 -- and crosses a lane level, over the width of a dot
 abbrev pub crossing_start : Route → (place : ℕ) → Point

@@ -1,7 +1,8 @@
 -- How far shapes reach from the middle of a dot, and where they have room.
-use Rattle.std.specs.Prelude.{ℕ, ◌+◌, ◌/◌, ◌<◌, ◌≤◌, List, [], ◌∷◌}
+use Rattle.std.specs.Prelude.{ℕ, ◌+◌, ◌-◌, ◌*◌, ◌/◌, ◌<◌, ◌≤◌, List, [], ◌∷◌}
 use Rattle.hlc_svg.specs.Frame.{row_y}
-use Rattle.hlc_svg.specs.Shapes.{Minus, Coordinate, Plus, Polygon, Rectangle, Shape, outline_of, ring_half, ring_of}
+use Rattle.hlc_svg.specs.Shapes.{Minus, Coordinate, Plus, Polygon, Rectangle, Shape, outline_of, ring_corner, ring_half, ring_of}
+use Rattle.hlc_svg.specs.declared.dot.TheConstants.{RING}
 use Rattle.hlc_svg.specs.declared.frame.TheConstants.{HALF_HEIGHT, HEADING_Y, ROW, TOP}
 use Rattle.hlc_svg.specs.declared.look.Form.{Form}
 use Rattle.hlc_svg.specs.declared.route.TheConstants.{AROUND}
@@ -29,6 +30,17 @@ OutlinesAreWithin = (form : Form) (half : ℕ) → IsWithin half HALF_HEIGHT (ou
 -- between two rows.
 abbrev pub RingsAreAround : Type 0
 RingsAreAround = (half : ℕ) → (HALF_HEIGHT < ring_half) × IsWithin (half + AROUND) (ROW / 2) (ring_of half)
+
+-- how far a coordinate lies past another, squared
+abbrev pub past_squared : (n past : ℕ) → ℕ
+past_squared n past = (n - past) * (n - past)
+
+-- the outline of a dot lies in the ring around it, corners too: what lies within the dot with half its line, lies within the inner edge of the ring's line,
+-- the corners of which are arcs
+abbrev pub DotsAreInRings : Type 0
+DotsAreInRings = (half x y : ℕ) → x ≤ half + 1 → y ≤ HALF_HEIGHT + 1 →
+    (x ≤ half + RING - 1) × (y ≤ ring_half - 1)
+    × (past_squared x (half + RING - ring_corner) + past_squared y (ring_half - ring_corner) ≤ (ring_corner - 1) * (ring_corner - 1))
 
 -- a ring ends above the ring in the next row, and so does a dot
 abbrev pub RowsAreApart : Type 0

@@ -3,25 +3,27 @@ use Rattle.std.specs.Prelude.{Bool, true, false, ℕ, ◌+◌, ◌-◌, ◌*◌,
 use Rattle.hlc_svg.specs.Path.{course_of, path_of, points_text}
 use Rattle.hlc_svg.specs.declared.arrow.Arrow.{Arrow}
 use Rattle.hlc_svg.specs.declared.dot.Dot.{Dot}
+use Rattle.hlc_svg.specs.declared.dot.TheConstants.{RING}
 use Rattle.hlc_svg.specs.declared.frame.TheConstants.{HALF_HEIGHT, HEADING_Y, ROW, TOP}
 use Rattle.hlc_svg.specs.declared.look.Form.{Form}
 use Rattle.hlc_svg.specs.declared.look.Form.TheVariants.{Box, Dip, Hexagon, Peak, Pill, Slant}
+use Rattle.hlc_svg.specs.declared.look.Look.{Look}
 use Rattle.hlc_svg.specs.declared.shapes.Band.{Band}
 use Rattle.hlc_svg.specs.declared.shapes.End.{End}
 use Rattle.hlc_svg.specs.declared.shapes.Lane.{Lane}
 use Rattle.hlc_svg.specs.declared.shapes.Link.{Link}
 
--- a node's name, and its lane below
+-- a node's whole name as a title, as much of it as is shown, and its lane below
 abbrev pub name_begins : Lane → List ℕ
-name_begins s = codes "<text class=\"n\" x=\"" ++ (decimal s.x ++ (codes "\" y=\"" ++ (decimal HEADING_Y ++ codes "\">")))
+name_begins s = codes "<text class=\"n\" x=\"" ++ (decimal s.x ++ (codes "\" y=\"" ++ (decimal HEADING_Y ++ codes "\"><title>")))
 
 abbrev pub lane_line : Lane → List ℕ
 lane_line s =
     codes "</text><line class=\"l\" x1=\"" ++ (decimal s.x ++ (codes "\" y1=\"" ++ (decimal TOP ++ (codes "\" x2=\"" ++ (decimal s.x
     ++ (codes "\" y2=\"" ++ (decimal s.height ++ codes "\"/>\n")))))))
 
-unfoldable pub lane_text : Lane → (name : List ℕ) → List ℕ
-lane_text s name = name_begins s ++ (name ++ lane_line s)
+unfoldable pub lane_text : Lane → (whole name : List ℕ) → List ℕ
+lane_text s whole name = name_begins s ++ (whole ++ (codes "</title>" ++ (name ++ lane_line s)))
 
 -- what lies behind a row, as high as it
 abbrev pub band_text : Band → List ℕ
@@ -84,12 +86,19 @@ form_name Slant = codes "slant"
 form_name Peak = codes "peak"
 form_name Dip = codes "dip"
 
--- the ring around a dot, and half its height
+-- the ring around a dot, and half its height. Its corners are rounded less than those of a pill, so that the corners of all dots lie within it
 abbrev pub ring_half : ℕ
 ring_half = 15
 
+abbrev pub ring_corner : ℕ
+ring_corner = 7
+
 abbrev pub ring_of : (half : ℕ) → Shape
-ring_of half = Rectangle (half + 4) ring_half ring_half
+ring_of half = Rectangle (half + RING) ring_half ring_corner
+
+-- how far a dot reaches to its sides, with the ring around it if it has one
+abbrev pub reach_of : Look → (half : ℕ) → ℕ
+reach_of look half = if look.is_ringed then half + RING else half
 
 -- the text of a shape: corners one after the other, and its name
 abbrev pub coordinate_text : Coordinate → List ℕ

@@ -1,7 +1,7 @@
 // The dots of events.
 
 ghost use Rattle.std.specs.Prelude.{◌≡◌, ◌*◌, ◌++◌, OnOk, Some, string_bytes};
-ghost use Rattle.hlc_svg.specs.Shapes.{dot_begins, dot_ends, outline_text, ring_if, ring_text, top_text};
+ghost use Rattle.hlc_svg.specs.Shapes.{dot_begins, dot_ends, outline_text, reach_of, ring_if, ring_text, top_text};
 
 use crate::frame::HALF_HEIGHT;
 use crate::look::{Form, Look};
@@ -9,6 +9,9 @@ use crate::shapes::Point;
 use hlc_stamp::EventId;
 use std::alloc::AllocError;
 use std::fmt;
+
+// How much further than a dot the ring around it reaches, to each side.
+pub(crate) const RING: u8 = 4;
 
 /// The dot of an event, with its number, by which it is known in the picture, and the one that is shown on it.
 #[derive(Clone, Copy)]
@@ -20,6 +23,17 @@ pub struct Dot {
     pub half: u8,
     pub look: Look,
     pub is_marked: bool,
+}
+
+/// How far a dot reaches to its sides, with the ring around it if it has one.
+pub fn reach(look: Look, half: u8) -> u16
+    ensures { result ≡ reach_of look half }
+{
+    if look.is_ringed {
+        u16::from(half) + u16::from(RING)
+    } else {
+        u16::from(half)
+    }
 }
 
 // How wide a dot is.
@@ -104,11 +118,11 @@ impl fmt::Display for Ring {
     ghost output = { λ ring. Some (ring_text ring.half) };
 
     fn fmt<W: fmt::Write>(&self, f: &mut fmt::Formatter<W>) -> fmt::Result {
-        let half = u32::from(self.half) + 4;
+        let half = u32::from(self.half) + u32::from(RING);
         let width = 2 * half;
         write!(
             f,
-            "<rect class=\"r\" x=\"-{half}\" y=\"-15\" width=\"{width}\" height=\"30\" rx=\"15\"/>"
+            "<rect class=\"r\" x=\"-{half}\" y=\"-15\" width=\"{width}\" height=\"30\" rx=\"7\"/>"
         )
     }
 }

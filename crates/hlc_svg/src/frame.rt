@@ -11,6 +11,9 @@ pub const FIRST_LANE: u16 = 50;
 
 pub const LANE: u16 = 110;
 
+/// How many characters of a node's name have room above its lane: half of them on its left, and no name comes near that of the next lane.
+pub const NAME_ROOM: u8 = 12;
+
 /// Where the first row stands, and how far it is from one row to the next.
 pub const FIRST_ROW: u64 = 84;
 

@@ -3,11 +3,12 @@
 //!
 //! - `frame` says where the lanes and the rows stand; `route` how an arrow runs between two dots, and keeps clear of all others.
 //! - `shapes`, `dot` and `arrow` have the shapes with their text, `look` how a dot looks, and `pieces` adds those that are there.
-//! - `label` escapes bytes for a picture; `numbers` adds numbers and stamps as rows show them.
+//! - `label` escapes bytes for a picture, and `cut_label` cuts a name in the middle; `numbers` adds numbers and stamps as rows show them.
 //! - `laws` has theorems: no markup comes from a label, and each of its letters is seen and stands alone; shapes have room.
 #![tactic(auto)]
 
 pub mod arrow;
+pub mod cut_label;
 pub mod dot;
 pub mod frame;
 pub mod label;

@@ -7,8 +7,8 @@ use crate::frame::{Frame, LaneId, ROW, beside, row_y, towards};
 use crate::shapes::Point;
 use std::alloc::AllocError;
 
-/// How far an arrow to the same lane keeps from the dots there.
-pub const AROUND: u16 = 8;
+/// How far an arrow to the same lane keeps from the dots there: its head has room between, beside a ring too.
+pub const AROUND: u16 = 16;
 
 /// Where an arrow runs: from a dot to beside another lane.
 #[derive(Clone, Copy)]
@@ -21,6 +21,8 @@ pub struct Route {
     /// The two lanes.
     pub from: LaneId,
     pub to: LaneId,
+    /// How far beside the second one it ends.
+    pub reach: u16,
     pub frame: Frame,
 }
 
@@ -83,7 +85,10 @@ fn start(route: Route) -> Point
 fn end(route: Route) -> Point
     ensures { result ≡ arrow_end route }
 {
-    beside(route.frame, route.to, route.from, end_y(route))
+    Point {
+        x: towards(route.frame, route.to, route.from, route.reach),
+        y: end_y(route),
+    }
 }
 
 // The points of an arrow across the lanes: level where it crosses one, so that it keeps clear of all dots.

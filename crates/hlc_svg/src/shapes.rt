@@ -124,15 +124,18 @@ impl fmt::Display for End {
     }
 }
 
-/// What comes before the name of a node.
+/// What comes before the whole name of a node, which is the title of its heading.
 pub fn put_lane_start(text: &mut String, lane: Lane) -> Result<(), AllocError>
     ensures { OnOk result (string_bytes text.new ≡ string_bytes text.old ++ name_begins lane) }
 {
     let x = lane.x;
-    write!(text, "<text class=\"n\" x=\"{x}\" y=\"{HEADING_Y}\">")
+    write!(
+        text,
+        "<text class=\"n\" x=\"{x}\" y=\"{HEADING_Y}\"><title>"
+    )
 }
 
-/// What comes after it: the lane.
+/// What comes after the name that is shown: the lane.
 pub fn put_lane_line(text: &mut String, lane: Lane) -> Result<(), AllocError>
     ensures { OnOk result (string_bytes text.new ≡ string_bytes text.old ++ lane_line lane) }
 {

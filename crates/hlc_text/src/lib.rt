@@ -21,7 +21,7 @@
 //! - `Statement::parse` reads a record, and says what is wrong with one that is no statement.
 //! - `Question` is what a record can ask of a cluster, and `reply_to` answers it with a `Reply`.
 //! - `Reply::push` writes a reply's rows. Until then a reply is a value, which stands for one row or more. What it says is given by the
-//!   definitions of entries, tables, chains, happened-before, drift and snapshots, and not by the code that finds it.
+//!   definitions of entries, tables, chains, happened-before, paths, drift and snapshots, and not by the code that finds it.
 //!
 //! A first caller, proved in `hlc_script_examples`: what a script leaves, and a script that leaves the same history.
 //!

@@ -3,8 +3,9 @@ ghost use Rattle.hlc_stamp.specs.Ids.{places_of};
 ghost use Rattle.hlc_causality.specs.ReceiveEvents.{plain_rules};
 ghost use Rattle.hlc_execution.specs.Execution.{HasLeastClockStamps};
 ghost use Rattle.hlc_arena.specs.History.{causality_of, stamps_of};
-ghost use Rattle.hlc_csv.specs.Rows.{number_row};
-ghost use Rattle.hlc_text.specs.Questions.{chain_fields, check_row, drift_row, inbox_row, influenced_fields, relation_fields, rows_for};
+ghost use Rattle.hlc_answers.specs.Answer.{plain_answer};
+ghost use Rattle.hlc_answers.specs.EventQuestion.{events_asked, plain_question as plain_asked};
+ghost use Rattle.hlc_text.specs.Questions.{drift_row, inbox_row, rows_about, rows_for, told_row};
 ghost use Rattle.hlc_text.specs.Statement as asked;
 ghost use Rattle.hlc_text.specs.Statement.{plain_question};
 ghost use Rattle.hlc_text.specs.Reply.{rows_of_reply};
@@ -14,10 +15,10 @@ use crate::number_row::NumberRow;
 use crate::question::Question;
 use crate::refused::{missing, refused};
 use crate::reply::Reply;
-use hlc_audit::{Drift, Relation, chain, check_chain, drift, influenced, relation, snapshot};
+use hlc_answers::{Answer, Drift, EventQuestion, answer_to, events_asked, question_word};
+use hlc_audit::{drift, snapshot};
 use hlc_causality::Receives;
 use hlc_core::{Cluster, Inbox, Refusal};
-use hlc_csv::yes_or_no;
 use hlc_execution::Execution;
 use hlc_stamp::{EventId, MAX_NODES, NodeId, Stamp};
 use std::alloc::{AllocError, Global};
@@ -48,75 +49,42 @@ fn push_events(numbers: &mut Vec<u64>, events: &[EventId]) -> Result<(), AllocEr
     Ok(())
 }
 
-// The row of a word, numbers, those of events, and a last word if there is one.
-fn numbers_row(
-    alloc: Global,
-    word: &'static [u8],
-    first: &[u64],
-    events: &[EventId],
-    last: Option<&'static [u8]>,
-) -> Result<Reply<'static>, AllocError>
-    requires { bytes_eq word.now (codes "refused") ≡ false }
-    ensures { IfOk result (λ reply. rows_of_reply reply ≡ number_row word.now (first.now ++ places_of events.now) last.entry ∷ []) }
+// The numbers of events.
+fn numbers_of(alloc: Global, events: &[EventId]) -> Result<Vec<u64>, AllocError>
+    ensures { IfOk result (λ numbers. numbers.items ≡ places_of events.now) }
 {
     let mut numbers = Vec::new(alloc);
-    numbers.extend_from_slice(first)?;
     push_events(&mut numbers, events)?;
+    Ok(numbers)
+}
+
+// The numbers of what was asked about, and then those of what is found.
+fn numbers_told(alloc: Global, asked: &[u64], found: &Answer) -> Result<Vec<u64>, AllocError>
+    ensures { IfOk result (λ numbers. numbers.items ≡ (asked.now ++ found.now.numbers.items) ++ places_of found.now.events.items) }
+{
+    let mut numbers = Vec::new(alloc);
+    numbers.extend_from_slice(asked)?;
+    numbers.extend_from_slice(&found.numbers)?;
+    push_events(&mut numbers, &found.events)?;
+    Ok(numbers)
+}
+
+// The row of what is found: a word, the numbers of what was asked about, and those of the answer.
+fn answer_row(
+    alloc: Global,
+    word: &'static [u8],
+    asked: &[u64],
+    found: &Answer,
+) -> Result<Reply<'static>, AllocError>
+    requires { bytes_eq word.now (codes "refused") ≡ false }
+    ensures { IfOk result (λ reply. rows_of_reply reply ≡ told_row word.now asked.now (plain_answer found.now) ∷ []) }
+{
+    let numbers = numbers_told(alloc, asked, found)?;
     Ok(Reply::Numbers(NumberRow {
         word,
         numbers,
-        last,
+        last: found.word,
     }))
-}
-
-// The row of an event's chain.
-fn chain_row(
-    alloc: Global,
-    event: EventId,
-    stamp: Stamp,
-    chain: &[EventId],
-) -> Result<Reply<'static>, AllocError>
-    ensures { IfOk result (λ reply. rows_of_reply reply ≡ chain_fields event.0 stamp (places_of chain.now) ∷ []) }
-{
-    let numbers = [u64::from(event.0), stamp.l, u64::from(stamp.c)];
-    numbers_row(alloc, b"chain", &numbers, chain, None)
-}
-
-// The row of whether a list explains the stamp of the event of a number.
-fn check_row(
-    alloc: Global,
-    number: EventNumber,
-    explains: bool,
-) -> Result<Reply<'static>, AllocError>
-    ensures { IfOk result (λ reply. rows_of_reply reply ≡ check_row number.0 explains ∷ []) }
-{
-    let answer = yes_or_no(explains);
-    numbers_row(alloc, b"check", &[number.0], &[], Some(answer))
-}
-
-// The row of how two events stand in happened-before.
-fn relation_row(
-    alloc: Global,
-    first: EventId,
-    second: EventId,
-    relation: Relation,
-) -> Result<Reply<'static>, AllocError>
-    ensures { IfOk result (λ reply. rows_of_reply reply ≡ relation_fields first.0 second.0 relation ∷ []) }
-{
-    let numbers = [u64::from(first.0), u64::from(second.0)];
-    numbers_row(alloc, b"relation", &numbers, &[], Some(relation.word()))
-}
-
-// The row of the events that an event happened before.
-fn influenced_row(
-    alloc: Global,
-    event: EventId,
-    influenced: &[EventId],
-) -> Result<Reply<'static>, AllocError>
-    ensures { IfOk result (λ reply. rows_of_reply reply ≡ influenced_fields event.0 (places_of influenced.now) ∷ []) }
-{
-    let event = u64::from(event.0);
-    numbers_row(alloc, b"influenced", &[event], influenced, None)
 }
 
 // The row of a node's drift.
@@ -127,15 +95,9 @@ fn drift_row(
 ) -> Result<Reply<'static>, AllocError>
     ensures { IfOk result (λ reply. rows_of_reply reply ≡ drift_row node.0 drift ∷ []) }
 {
-    let node = u64::from(node.0);
-    match drift {
-        Some(drift) => {
-            let (event, origin) = (u64::from(drift.event.0), u64::from(drift.origin.0));
-            let numbers = [node, drift.ahead, event, origin];
-            numbers_row(alloc, b"drift", &numbers, &[], None)
-        }
-        None => numbers_row(alloc, b"drift", &[node], &[], Some(b"none")),
-    }
+    let number = u64::from(node.0);
+    let found = Answer::of_drift(alloc, drift)?;
+    answer_row(alloc, b"drift", &[number], &found)
 }
 
 // The reply on a node's inbox.
@@ -191,18 +153,40 @@ fn execution_of(cluster: &Cluster) -> &Execution
     cluster.history().execution()
 }
 
-// The reply on what explains an event's stamp.
-fn chain_reply(alloc: Global, cluster: &Cluster, event: EventId) -> Result<Reply<'_>, AllocError>
-    ensures { IfOk result (λ reply. rows_of_reply reply ≡ rows_for cluster.now (asked.Explain event.0)) }
+// The reply to a question about events, which names these by such numbers.
+fn reply_about<'a>(
+    alloc: Global,
+    cluster: &Cluster,
+    asked: &[u64],
+    question: EventQuestion<'_>,
+) -> Result<Reply<'a>, AllocError>
+    ensures { IfOk result (λ reply. rows_of_reply reply ≡ rows_about cluster.now asked.now (plain_asked question.entry)) }
 {
     let execution = execution_of(cluster);
-    match chain(alloc, execution, event) {
-        Ok(chain) => {
-            let stamp = execution.stamp(event);
-            chain_row(alloc, event, stamp, &chain)
-        }
+    let mut ends = [0; MAX_NODES as usize];
+    match answer_to(
+        alloc,
+        execution,
+        &mut ends[..execution.nodes() as usize],
+        question,
+    ) {
+        Ok(found) => answer_row(alloc, question_word(question), asked, &found),
         Err(fault) => missing(fault),
     }
+}
+
+// The reply to a question about events, by their own numbers.
+fn events_reply<'a>(
+    alloc: Global,
+    cluster: &Cluster,
+    question: EventQuestion<'_>,
+) -> Result<Reply<'a>, AllocError>
+    ensures { let question = plain_asked question.entry in
+        IfOk result (λ reply. rows_of_reply reply ≡ rows_about cluster.now (events_asked question) question) }
+{
+    let events = events_asked(alloc, question)?;
+    let asked = numbers_of(alloc, &events)?;
+    reply_about(alloc, cluster, &asked, question)
 }
 
 // The reply on whether events explain the stamp of the event of a number.
@@ -214,37 +198,12 @@ fn check_reply<'a>(
 ) -> Result<Reply<'a>, AllocError>
     ensures { IfOk result (λ reply. rows_of_reply reply ≡ rows_for cluster.now (asked.Check number.0 (places_of events.now))) }
 {
-    let explains = check_chain(execution_of(cluster), number.event(), events);
-    check_row(alloc, number, explains)
-}
-
-// The reply on how two events stand in happened-before.
-fn relation_reply(
-    alloc: Global,
-    cluster: &Cluster,
-    first: EventId,
-    second: EventId,
-) -> Result<Reply<'_>, AllocError>
-    ensures { IfOk result (λ reply. rows_of_reply reply ≡ rows_for cluster.now (asked.Relation first.0 second.0)) }
-{
-    match relation(execution_of(cluster), first, second) {
-        Ok(found) => relation_row(alloc, first, second, found),
-        Err(fault) => missing(fault),
-    }
-}
-
-// The reply on the events that an event happened before.
-fn influence_reply(
-    alloc: Global,
-    cluster: &Cluster,
-    event: EventId,
-) -> Result<Reply<'_>, AllocError>
-    ensures { IfOk result (λ reply. rows_of_reply reply ≡ rows_for cluster.now (asked.Influenced event.0)) }
-{
-    match influenced(alloc, execution_of(cluster), event) {
-        Ok(events) => influenced_row(alloc, event, &events),
-        Err(fault) => missing(fault),
-    }
+    let event = number.event();
+    let question = EventQuestion::Check {
+        event,
+        chain: events,
+    };
+    reply_about(alloc, cluster, &[number.0], question)
 }
 
 // The reply on a node's drift.
@@ -289,10 +248,18 @@ pub fn reply_to<'a>(
         Question::Inbox(node) => inbox_reply(alloc, cluster, node),
         Question::Get { node, key } => Ok(entry_reply(cluster, node, key)),
         Question::Table(node) => Ok(table_reply(cluster, node)),
-        Question::Explain(event) => chain_reply(alloc, cluster, event),
+        Question::Explain(event) => events_reply(alloc, cluster, EventQuestion::Explain(event)),
         Question::Check { number, events } => check_reply(alloc, cluster, number, &events),
-        Question::Relation { first, second } => relation_reply(alloc, cluster, first, second),
-        Question::Influenced(event) => influence_reply(alloc, cluster, event),
+        Question::Relation { first, second } => {
+            events_reply(alloc, cluster, EventQuestion::Relation { first, second })
+        }
+        Question::Influenced(event) => {
+            events_reply(alloc, cluster, EventQuestion::Influenced(event))
+        }
+        Question::Why { first, second } => {
+            events_reply(alloc, cluster, EventQuestion::Why { first, second })
+        }
+        Question::Tainted(event) => events_reply(alloc, cluster, EventQuestion::Tainted(event)),
         Question::Drift(node) => drift_reply(alloc, cluster, node),
         Question::Snapshot { stamp, node } => snapshot_reply(alloc, cluster, stamp, node),
     }

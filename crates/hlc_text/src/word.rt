@@ -29,6 +29,10 @@ pub(crate) enum Word {
     Relation,
     /// `influenced,EVENT`.
     Influenced,
+    /// `why,EVENT,EVENT`.
+    Why,
+    /// `tainted,EVENT`.
+    Tainted,
     /// `drift,NODE`.
     Drift,
     /// `snapshot,L,C,NODE`.
@@ -36,7 +40,7 @@ pub(crate) enum Word {
 }
 
 // The words as they are spelt, which are looked for in this order: first those that long scripts are made of.
-const SPELLINGS: [(&[u8], Word); 16] = [
+const SPELLINGS: [(&[u8], Word); 18] = [
     (b"write", Word::Write),
     (b"send", Word::Send),
     (b"deliver", Word::Deliver),
@@ -51,6 +55,8 @@ const SPELLINGS: [(&[u8], Word); 16] = [
     (b"check", Word::Check),
     (b"relation", Word::Relation),
     (b"influenced", Word::Influenced),
+    (b"why", Word::Why),
+    (b"tainted", Word::Tainted),
     (b"drift", Word::Drift),
     (b"snapshot", Word::Snapshot),
 ];
@@ -76,9 +82,9 @@ impl Word {
         match self {
             Word::Write | Word::Send | Word::Pull => 5,
             Word::Erase | Word::Sync | Word::Deliver | Word::Snapshot => 4,
-            Word::Get | Word::Relation => 3,
+            Word::Get | Word::Relation | Word::Why => 3,
             Word::Lose | Word::Inbox | Word::Table | Word::Explain | Word::Check => 2,
-            Word::Influenced | Word::Drift => 2,
+            Word::Influenced | Word::Tainted | Word::Drift => 2,
         }
     }
 

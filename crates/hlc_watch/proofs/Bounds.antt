@@ -138,25 +138,25 @@ module _ (keep : ℕ) (some : 0 < keep) (messages : KeptMessages) (bounded : Are
   }
   after_any (Receive m) = after_found m.0 (lookup (nat_eq m.0) messages.sent)
 
-module _ (receives : Receives) (keep : ℕ) (events : List LogEvent) (some : 0 < keep) (fits : keep < 2 ^ 32) where
-  messages_bounded : (n : ℕ) → AreBounded keep (kept_after receives keep events n).messages
+module _ (receives : Receives) (keep : ℕ) (files : ℕ → ℕ) (events : List LogEvent) (some : 0 < keep) (fits : keep < 2 ^ 32) where
+  messages_bounded : (n : ℕ) → AreBounded keep (kept_after receives keep files events n).messages
   messages_bounded zero = record {
     keep_is = refl;
     sent = omega arith;
     awaited = record { few = omega arith; fits = fits; some = λ x there. absurd (Contains-nil x there) };
   }
   messages_bounded (suc n) =
-      let kept = kept_after receives keep events n in
-      let event = ruled_at receives events n in
+      let kept = kept_after receives keep files events n in
+      let event = ruled_at receives files events n in
       after_any keep some kept.messages (messages_bounded n) (records_of kept.last event) event.kind
 
-  nodes_bounded : (n : ℕ) → length (kept_after receives keep events n).last ≡ 65536
+  nodes_bounded : (n : ℕ) → length (kept_after receives keep files events n).last ≡ 65536
   nodes_bounded zero = length-replicate {A = Option Claimed} 65536 None
   nodes_bounded (suc n) =
-      let event = ruled_at receives events n in
-      length-set (kept_after receives keep events n).last event.node.0 (Some (claimed_by event)) ∙ nodes_bounded n
+      let event = ruled_at receives files events n in
+      length-set (kept_after receives keep files events n).last event.node.0 (Some (claimed_by event)) ∙ nodes_bounded n
 
 pub stays_small : StaysSmall
-stays_small receives keep events n some fits =
-    let bounded = messages_bounded receives keep events some fits n in
-    record { nodes = nodes_bounded receives keep events some fits n; sent = bounded.sent; waiting = bounded.awaited.few }
+stays_small receives keep files events n some fits =
+    let bounded = messages_bounded receives keep files events some fits n in
+    record { nodes = nodes_bounded receives keep files events some fits n; sent = bounded.sent; waiting = bounded.awaited.few }

@@ -69,15 +69,15 @@ module _ (messages : KeptMessages) (records : Records) (few : open_count message
   one_more (Send m) = one_sent m.0
   one_more (Receive m) = one_received m.0 (lookup (nat_eq m.0) messages.sent)
 
-module _ (receives : Receives) (keep : ℕ) (events : List LogEvent) where
-  counted : (n : ℕ) → n < 2 ^ 64 → told_count receives keep events n + open_count (kept_after receives keep events n).messages ≡ n
+module _ (receives : Receives) (keep : ℕ) (files : ℕ → ℕ) (events : List LogEvent) where
+  counted : (n : ℕ) → n < 2 ^ 64 → told_count receives keep files events n + open_count (kept_after receives keep files events n).messages ≡ n
   counted zero few = refl
   counted (suc n) few =
-      let kept = kept_after receives keep events n in
-      let event = ruled_at receives events n in
+      let kept = kept_after receives keep files events n in
+      let event = ruled_at receives files events n in
       let before = counted n (omega arith) in
       let one = one_more kept.messages (records_of kept.last event) (omega arith) event.kind in
       omega arith
 
 pub each_is_counted : EachIsCounted
-each_is_counted receives keep events n few = counted receives keep events n few
+each_is_counted receives keep files events n few = counted receives keep files events n few

@@ -43,17 +43,17 @@ in_waiting awaited m w there = by_found (lookup (nat_eq m) awaited) refl there
         let same : found.0 ≡ m = sym (eqb-true m found.0 found.2) in
         (ws, subst (λ k. Contains awaited (k, ws)) same found.1, rw is at h)
 
-module _ (receives : Receives) (events : List LogEvent) where
+module _ (receives : Receives) (files : ℕ → ℕ) (events : List LogEvent) where
   -- what is kept of sent messages is what sends claim among the first n
   abbrev pub IsSent : ℕ → ℕ × Claimed → Type 0
-  IsSent n x = (d : ℕ) × (d < n) × Sends events d x.0 × (x.1 ≡ claimed_at events d)
+  IsSent n x = (d : ℕ) × (d < n) × Sends events d x.0 × (x.1 ≡ claimed_at files events d)
 
   abbrev pub AreSent : ℕ → List (ℕ × Claimed) → Type 0
   AreSent n sent = (x : ℕ × Claimed) → Contains sent x → IsSent n x
 
   -- what waits for a message are receives among the first n
   abbrev pub IsWaiting : ℕ → (m : ℕ) → Records → Type 0
-  IsWaiting n m w = (e : ℕ) × (e < n) × ReceivesMessage events e m × (w ≡ records_at receives events e None)
+  IsWaiting n m w = (e : ℕ) × (e < n) × ReceivesMessage events e m × (w ≡ records_at receives files events e None)
 
   abbrev pub AreWaiting : ℕ → List (ℕ × List Records) → Type 0
   AreWaiting n awaited = (x : ℕ × List Records) → Contains awaited x → (w : Records) → Contains x.1 w → IsWaiting n x.0 w
@@ -61,7 +61,7 @@ module _ (receives : Receives) (events : List LogEvent) where
   -- what is known of what is kept once the first n events have come
   pub record IsKnown (n : ℕ) (kept : KeptLog) : Type 0 where
     pub nodes : length kept.last ≡ 65536
-    pub last : (node : ℕ) → node < 65536 → last_at kept.last node ≡ option_map (claimed_at events) (latest_of events node n)
+    pub last : (node : ℕ) → node < 65536 → last_at kept.last node ≡ option_map (claimed_at files events) (latest_of events node n)
     pub sent : AreSent n kept.messages.sent
     pub awaited : AreWaiting n kept.messages.awaited
 
@@ -85,19 +85,19 @@ module _ (receives : Receives) (events : List LogEvent) where
     node = (event_at events n).node.0
 
     last_next : (other : ℕ) → other < 65536
-        → last_at (slice_set kept.last node (Some (claimed_at events n))) other ≡ option_map (claimed_at events) (latest_of events other (suc n))
+        → last_at (slice_set kept.last node (Some (claimed_at files events n))) other ≡ option_map (claimed_at files events) (latest_of events other (suc n))
     last_next other other_few = elim (cases_Bool (node == other)) [
-      | inl test ↦ rw (test, sym (eqb-true node other test)) (get_or-set_same kept.last node (Some (claimed_at events n)) None (let size = known.nodes in omega arith))
+      | inl test ↦ rw (test, sym (eqb-true node other test)) (get_or-set_same kept.last node (Some (claimed_at files events n)) None (let size = known.nodes in omega arith))
       | inr test ↦
           let differ : other ≢ node = λ same. (let bad : true ≡ false = sym (eq-eqb node other (sym same)) ∙ test in cc) in
-          rw test (get_or-set_other kept.last node other (Some (claimed_at events n)) None differ ∙ known.last other other_few)
+          rw test (get_or-set_other kept.last node other (Some (claimed_at files events n)) None differ ∙ known.last other other_few)
     ]
 
     abbrev pub own : Records
-    own = records_of kept.last (ruled_at receives events n)
+    own = records_of kept.last (ruled_at receives files events n)
 
-    pub own_is : own ≡ records_at receives events n None
-    own_is = λ i. record { event = ruled_at receives events n; previous = known.last node few i; send = None }
+    pub own_is : own ≡ records_at receives files events n None
+    own_is = λ i. record { event = ruled_at receives files events n; previous = known.last node few i; send = None }
 
     sends_now : (message : MessageId) → (event_at events n).kind ≡ Send message → Sends events n message.0
     sends_now message is = record { exists = exists; kind = is }
@@ -107,8 +107,8 @@ module _ (receives : Receives) (events : List LogEvent) where
 
     -- sent
     sent_put : (message : MessageId) → (event_at events n).kind ≡ Send message
-        → AreSent (suc n) (put_entries nat_eq (lru_cache kept.messages.sent kept.messages.keep) message.0 (claimed_at events n))
-    sent_put message is x there = elim (Contains-put_entries nat_eq (lru_cache kept.messages.sent kept.messages.keep) message.0 (claimed_at events n) x there) [
+        → AreSent (suc n) (put_entries nat_eq (lru_cache kept.messages.sent kept.messages.keep) message.0 (claimed_at files events n))
+    sent_put message is x there = elim (Contains-put_entries nat_eq (lru_cache kept.messages.sent kept.messages.keep) message.0 (claimed_at files events n) x there) [
       | inl before ↦ sent_later n x (known.sent x before)
       | inr put ↦ (n, omega arith, subst (λ m. Sends events n m) (sym (key put.1)) (sends_now message is), put.0)
     ]
@@ -169,39 +169,39 @@ module _ (receives : Receives) (events : List LogEvent) where
     messages_next (Send message) is = (sent_put message is, waiting_others message.0)
     messages_next (Receive message) is = after_found message is (lookup (nat_eq message.0) kept.messages.sent)
 
-    pub known_next : IsKnown (suc n) (after_event kept (ruled_at receives events n))
+    pub known_next : IsKnown (suc n) (after_event kept (ruled_at receives files events n))
     known_next =
         let messages = messages_next (event_at events n).kind refl in
         record {
-          nodes = length-set kept.last node (Some (claimed_at events n)) ∙ known.nodes;
+          nodes = length-set kept.last node (Some (claimed_at files events n)) ∙ known.nodes;
           last = last_next;
           sent = messages.0;
           awaited = messages.1;
         }
 
     -- what is told
-    own_records : NamesSender events n None → AreRecordsOf receives events n own
+    own_records : NamesSender events n None → AreRecordsOf receives files events n own
     own_records names = record { place = n; send = None; names = names; are = own_is; last = refl }
 
     abbrev AreTold : List Records → Type 0
-    AreTold told = (records : Records) → Contains told records → AreRecordsOf receives events n records
+    AreTold told = (records : Records) → Contains told records → AreRecordsOf receives files events n records
 
     told_alone : NamesSender events n None → AreTold (own ∷ [])
     told_alone names records there = elim (Contains-cons own [] records there) [
-      | inl same ↦ subst (λ r. AreRecordsOf receives events n r) same (own_records names)
+      | inl same ↦ subst (λ r. AreRecordsOf receives files events n r) same (own_records names)
       | inr later ↦ absurd (Contains-nil records later)
     ]
 
-    told_waited : (message : MessageId) → (event_at events n).kind ≡ Send message → AreTold (waited_for kept.messages message.0 (claimed_at events n))
+    told_waited : (message : MessageId) → (event_at events n).kind ≡ Send message → AreTold (waited_for kept.messages message.0 (claimed_at files events n))
     told_waited message is records there =
-        let w = contains_mapped (with_send (claimed_at events n)) (waiting_for kept.messages.awaited message.0) records there in
+        let w = contains_mapped (with_send (claimed_at files events n)) (waiting_for kept.messages.awaited message.0) records there in
         let found = in_waiting kept.messages.awaited message.0 w.0 w.1 in
         let (e, before, receives_it, w_is) = known.awaited (message.0, found.0) found.1 w.0 found.2 in
         record {
           place = e;
           send = Some n;
           names = (message.0, sends_now message is, receives_it);
-          are = sym w.2 ∙ ap (with_send (claimed_at events n)) w_is;
+          are = sym w.2 ∙ ap (with_send (claimed_at files events n)) w_is;
           last = omega arith;
         }
 
@@ -218,7 +218,7 @@ module _ (receives : Receives) (events : List LogEvent) where
             place = n;
             send = Some d;
             names = (message.0, subst (λ m. Sends events d m) key sends, receives_now message is);
-            are = sym same ∙ ap (with_send c) own_is ∙ ap (λ (x : Claimed). with_send x (records_at receives events n None)) c_is;
+            are = sym same ∙ ap (with_send c) own_is ∙ ap (λ (x : Claimed). with_send x (records_at receives files events n None)) c_is;
             last = omega arith;
           }
     ]
@@ -230,20 +230,20 @@ module _ (receives : Receives) (events : List LogEvent) where
     told_by_kind Local is = told_alone (not_received Local is (λ m same. cc))
     told_by_kind Restart is = told_alone (not_received Restart is (λ m same. cc))
     told_by_kind Outside is = told_alone (not_received Outside is (λ m same. cc))
-    told_by_kind (Send message) is = λ records there. elim (Contains-cons own (waited_for kept.messages message.0 (claimed_at events n)) records there) [
-      | inl same ↦ subst (λ r. AreRecordsOf receives events n r) same (own_records (not_received (Send message) is (λ m other. cc)))
+    told_by_kind (Send message) is = λ records there. elim (Contains-cons own (waited_for kept.messages message.0 (claimed_at files events n)) records there) [
+      | inl same ↦ subst (λ r. AreRecordsOf receives files events n r) same (own_records (not_received (Send message) is (λ m other. cc)))
       | inr waited ↦ told_waited message is records waited
     ]
     told_by_kind (Receive message) is = told_received message is (lookup (nat_eq message.0) kept.messages.sent) refl
 
-    pub told_next : AreTold (told_as kept (ruled_at receives events n))
+    pub told_next : AreTold (told_as kept (ruled_at receives files events n))
     told_next = told_by_kind (event_at events n).kind refl
 
-  pub known_after : (keep : ℕ) → AreFewNodes events → (n : ℕ) → n ≤ length events → IsKnown n (kept_after receives keep events n)
+  pub known_after : (keep : ℕ) → AreFewNodes events → (n : ℕ) → n ≤ length events → IsKnown n (kept_after receives keep files events n)
   known_after keep few zero within = none_known keep
   known_after keep few (suc n) within =
-      known_next n (omega arith) (few n (omega arith)) (kept_after receives keep events n) (known_after keep few n (omega arith))
+      known_next n (omega arith) (few n (omega arith)) (kept_after receives keep files events n) (known_after keep few n (omega arith))
 
 pub tells_records : TellsRecords
-tells_records receives keep events n records few exists told =
-    told_next receives events n exists (few n exists) (kept_after receives keep events n) (known_after receives events keep few n (omega arith)) records told
+tells_records receives keep files events n records few exists told =
+    told_next receives files events n exists (few n exists) (kept_after receives keep files events n) (known_after receives files events keep few n (omega arith)) records told

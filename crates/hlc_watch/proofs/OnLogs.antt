@@ -1,7 +1,7 @@
 -- Causes are local: the three records of an event tell what it breaks, in whatever causal order of the log.
 use Rattle.std.proofs.Common.{◌≡◌, ◌≢◌, ◌∙◌, ℕ, zero, suc, ◌<◌, Bool, true, false, List, length, Option, Some, None, arith, inl, inr, refl, sym, ap, subst}
-use Rattle.std.specs.Prelude.{is_some, option_and_then, option_map, slice_set}
-use Rattle.std.proofs.lemmas.Bool.{cases_order, eq-eqb, ne_eqb}
+use Rattle.std.specs.Prelude.{if◌then◌else◌, ◌==◌, is_some, option_and_then, option_map, slice_set}
+use Rattle.std.proofs.lemmas.Bool.{cases_Bool, cases_order, eq-eqb, eqb-true, ne_eqb}
 use Rattle.std.proofs.lemmas.List.{get_or-map, get_or-set_other, get_or-set_same, length-map}
 use Rattle.hlc_stamp.specs.declared.id.EventId.{EventId}
 use Rattle.hlc_stamp.specs.Order.{Pair, zero_pair}
@@ -34,11 +34,28 @@ use Rattle.hlc_log.specs.Events.{event_at, own_rule}
 use Rattle.hlc_log.specs.Messages.{EachIsSentOnce, SendsTo}
 use Rattle.hlc_log.specs.OrderSkeleton.{index_in, position_of, rules_in, send_place, skeleton_event_in, skeleton_in}
 use Rattle.hlc_log.proofs.OrderSkeletons.{earlier_from_order, earlier_in_order, earlier_of, length-skeleton_in, own_in, place_exists, place_of_index, same_position, send_from_order, send_in_order, send_is, skeleton_in_at}
+use Rattle.hlc_watch.specs.declared.file_line.FileLine.{FileLine}
 use Rattle.hlc_watch.specs.declared.records.Claimed.{Claimed}
 use Rattle.hlc_watch.specs.declared.records.Records.{Records}
 use Rattle.hlc_watch.specs.Coming.{LinesDiffer, NamesSender, NodesStandAsTheyCome, by_lines, claimed_at, clocks_in, latest_of, line_at, previous_at, records_at, seen_in, stamps_in}
 use Rattle.hlc_watch.specs.Laws.{RecordsTellCauses}
-use Rattle.hlc_watch.specs.Records.{clock_event_by, line_causes, line_if, lined, local_event_of, received, seen_by, seen_stamp}
+use Rattle.hlc_watch.specs.Records.{clock_event_by, is_same_line, line_causes, line_if, lined, local_event_of, received, seen_by, seen_stamp}
+
+-- lines are told apart
+same_line : (a b : FileLine) → a ≡ b → is_same_line a b ≡ true
+same_line a b same = rw (eq-eqb a.file b.file (ap (λ (x : FileLine). x.file) same), eq-eqb a.number b.number (ap (λ (x : FileLine). x.number) same)) refl
+
+other_line : (a b : FileLine) → a ≢ b → is_same_line a b ≡ false
+other_line a b other = elim (cases_Bool (a.file == b.file)) [
+  | inr differ ↦ rw differ refl
+  | inl file ↦ elim (cases_Bool (a.number == b.number)) [
+    | inr differ ↦ rw (file, differ) refl
+    | inl number ↦
+        let file_is = eqb-true a.file b.file file in
+        let number_is = eqb-true a.number b.number number in
+        absurd (other (λ i. record { file = file_is i; number = number_is i }))
+  ]
+]
 
 module _ (events : List LogEvent) (node : ℕ) where
   -- the latest event of a node is found
@@ -79,18 +96,18 @@ seen_other claimed None (Some p) e other = refl
 seen_other claimed (Some d) None e other = refl
 seen_other claimed (Some d) (Some p) e other = get_or-set_other claimed d e p zero_pair (other d refl)
 
-module _ (events : List LogEvent) (order : List ℕ) where
+module _ (files : ℕ → ℕ) (events : List LogEvent) (order : List ℕ) where
   -- the line of an event, if a rule is broken by its stamp
-  line_named : (broken : Bool) (o : Option ℕ) → line_if broken (option_map (claimed_at events) (option_map (place_at order) o))
-      ≡ option_map (λ (d : EventId). line_at events order d.0) (named_if broken o)
+  line_named : (broken : Bool) (o : Option ℕ) → line_if broken (option_map (claimed_at files events) (option_map (place_at order) o))
+      ≡ option_map (λ (d : EventId). line_at files events order d.0) (named_if broken o)
   line_named true None = refl
   line_named true (Some d) = refl
   line_named false None = refl
   line_named false (Some d) = refl
 
   lined_by : (causes : LocalCauses) (previous send : Option ℕ)
-      → lined (option_map (claimed_at events) (option_map (place_at order) previous)) (option_map (claimed_at events) (option_map (place_at order) send)) causes
-      ≡ by_lines events order (placed_causes previous send causes)
+      → lined (option_map (claimed_at files events) (option_map (place_at order) previous)) (option_map (claimed_at files events) (option_map (place_at order) send)) causes
+      ≡ by_lines files events order (placed_causes previous send causes)
   lined_by causes previous send = λ i. record {
     behind = causes.behind;
     not_above_previous = line_named causes.not_above_previous previous i;
@@ -98,8 +115,8 @@ module _ (events : List LogEvent) (order : List ℕ) where
     ahead = causes.ahead;
   }
 
-module _ (receives : Receives) (events : List LogEvent) (order : List ℕ) (once : EachIsSentOnce events) (causal : IsCausalOrder events order)
-    (differ : LinesDiffer events) (stand : NodesStandAsTheyCome events) (k : ℕ) (exists : k < length order) where
+module _ (receives : Receives) (files : ℕ → ℕ) (events : List LogEvent) (order : List ℕ) (once : EachIsSentOnce events) (causal : IsCausalOrder events order)
+    (differ : LinesDiffer files events) (stand : NodesStandAsTheyCome events) (k : ℕ) (exists : k < length order) where
   abbrev s : Skeleton
   s = skeleton_in events order
 
@@ -244,7 +261,7 @@ module _ (receives : Receives) (events : List LogEvent) (order : List ℕ) (once
       (λ d is same. (let earlier = (send_earlier d is).earlier in omega arith)) ∙ stamp_at k exists
 
   -- lines of events at other positions differ
-  lines_differ : (i j : ℕ) → i < length order → j < length order → i ≢ j → line_at events order i ≢ line_at events order j
+  lines_differ : (i j : ℕ) → i < length order → j < length order → i ≢ j → line_at files events order i ≢ line_at files events order j
   lines_differ i j i_lt j_lt other = elim (cases_order (place_at order i) (place_at order j)) [
     | inl same ↦ absurd (other (same_position events order causal i j i_lt j_lt same))
     | inr apart ↦ elim apart [
@@ -254,7 +271,7 @@ module _ (receives : Receives) (events : List LogEvent) (order : List ℕ) (once
   ]
 
   abbrev claimed_in : ℕ → Claimed
-  claimed_in j = claimed_at events (place_at order j)
+  claimed_in j = claimed_at files events (place_at order j)
 
   -- the event saw the stamp at a position so
   seen_so : (o : Option ℕ) → ((d : ℕ) → o ≡ Some d → d < length order) → (p : Option Pair) (j : ℕ) → j < length order
@@ -265,11 +282,13 @@ module _ (receives : Receives) (events : List LogEvent) (order : List ℕ) (once
   seen_so (Some d) there (Some p) j lt = elim (cases_order d j) [
     | inl same ↦
         let within : d < length (stamps_in events order) = omega (arith, there d refl, length-stamps) in
-        rw (eq-eqb (line_at events order d) (line_at events order j) (ap (line_at events order) same))
+        ap (λ (test : Bool). if test then p else (claimed_in j).stamp)
+        (same_line (line_at files events order d) (line_at files events order j) (ap (line_at files events order) same)) ∙
         (sym (ap (λ (x : ℕ). pair_at (slice_set (stamps_in events order) d p) x) (sym same) ∙ get_or-set_same (stamps_in events order) d p zero_pair within))
     | inr apart ↦
         let other : d ≢ j = λ same. elim apart [ inl lt' ↦ omega arith | inr gt ↦ omega arith ] in
-        rw (ne_eqb (line_at events order d) (line_at events order j) (lines_differ d j (there d refl) lt other))
+        ap (λ (test : Bool). if test then p else (claimed_in j).stamp)
+        (other_line (line_at files events order d) (line_at files events order j) (lines_differ d j (there d refl) lt other)) ∙
         (sym (get_or-set_other (stamps_in events order) d j p zero_pair (λ same. other (sym same)) ∙ stamp_at j lt))
   ]
 
@@ -283,7 +302,7 @@ module _ (receives : Receives) (events : List LogEvent) (order : List ℕ) (once
 
   module _ (send : Option ℕ) (names : NamesSender events e send) where
     abbrev records : Records
-    records = records_at receives events e send
+    records = records_at receives files events e send
 
     floor_is : (clock_event_by receives (event_at events e)).floor ≡ (clock_event_at t k).floor
     floor_is =
@@ -297,15 +316,15 @@ module _ (receives : Receives) (events : List LogEvent) (order : List ℕ) (once
         let y : SkeletonEvent = record { node = (event_at events e).node.0; reading = (event_at events e).reading; send = received (event_at events e).kind } in
         sym (ap (λ (c : ClockEvent). c.ticks) event_there ∙ same_ticks receives x y (receives_something send names) refl (own_rule receives (event_at events e)))
 
-    twice : (o : Option ℕ) → option_map (claimed_at events) (option_map (place_at order) o) ≡ option_map claimed_in o
+    twice : (o : Option ℕ) → option_map (claimed_at files events) (option_map (place_at order) o) ≡ option_map claimed_in o
     twice None = refl
     twice (Some j) = refl
 
     sent_is : records.send ≡ option_map claimed_in (send_of s k)
-    sent_is = ap (option_map (claimed_at events)) (send_there send names) ∙ twice (send_of s k)
+    sent_is = ap (option_map (claimed_at files events)) (send_there send names) ∙ twice (send_of s k)
 
     before_is : records.previous ≡ option_map claimed_in (previous_of s k)
-    before_is = ap (option_map (claimed_at events)) previous_there ∙ twice (previous_of s k)
+    before_is = ap (option_map (claimed_at files events)) previous_there ∙ twice (previous_of s k)
 
     previous_stands : (j : ℕ) → previous_of s k ≡ Some j → j < length order
     previous_stands j is = let h = (previous_earlier j is).at_node in omega (arith, h.earlier, exists)
@@ -330,7 +349,7 @@ module _ (receives : Receives) (events : List LogEvent) (order : List ℕ) (once
       send = send_is_seen i;
     }
 
-    causes_told : (full : ℕ) (answer : Causes) → NamesCauses t claims full k answer → line_causes full records ≡ by_lines events order answer
+    causes_told : (full : ℕ) (answer : Causes) → NamesCauses t claims full k answer → line_causes full records ≡ by_lines files events order answer
     causes_told full answer named =
         let previous = previous_of (clock_skeleton t) k in
         let sent = send_of (clock_skeleton t) k in
@@ -338,12 +357,12 @@ module _ (receives : Receives) (events : List LogEvent) (order : List ℕ) (once
         let is : placed_causes previous sent local ≡ answer =
         causes_are_unique t claims full k (placed_causes previous sent local) answer in_t (causes_are_local t claims full k in_t) named in
         ap (λ (x : LocalEvent). lined records.previous records.send (local_causes full x)) local_is
-        ∙ ap (λ (o : Option ℕ). lined (option_map (claimed_at events) o) records.send local) (previous_there ∙ ap (option_map (place_at order)) (previous_received rules s k))
-        ∙ ap (λ (o : Option ℕ). lined (option_map (claimed_at events) (option_map (place_at order) previous)) (option_map (claimed_at events) o) local)
+        ∙ ap (λ (o : Option ℕ). lined (option_map (claimed_at files events) o) records.send local) (previous_there ∙ ap (option_map (place_at order)) (previous_received rules s k))
+        ∙ ap (λ (o : Option ℕ). lined (option_map (claimed_at files events) (option_map (place_at order) previous)) (option_map (claimed_at files events) o) local)
         (send_there send names ∙ ap (option_map (place_at order)) (send_of_received rules s k))
-        ∙ lined_by events order local previous sent ∙ ap (by_lines events order) is
+        ∙ lined_by files events order local previous sent ∙ ap (by_lines files events order) is
 
 pub records_tell_causes : RecordsTellCauses
-records_tell_causes receives events order full k send answer once differ stand causal exists names named =
-    causes_told receives events order once causal differ stand k exists send names full answer
-    (subst (λ (p : List Pair). NamesCauses (clocks_in receives events order) p full k answer) (claims_are receives events order once causal differ stand k exists) named)
+records_tell_causes receives files events order full k send answer once differ stand causal exists names named =
+    causes_told receives files events order once causal differ stand k exists send names full answer
+    (subst (λ (p : List Pair). NamesCauses (clocks_in receives events order) p full k answer) (claims_are receives files events order once causal differ stand k exists) named)

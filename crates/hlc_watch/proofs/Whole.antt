@@ -57,7 +57,7 @@ get_some : {X : Type 0} (o : Option X) → IsSome o → (x : X) × (o ≡ Some x
 get_some None some = absurd cc
 get_some (Some x) some = (x, refl)
 
-module _ (receives : Receives) (keep : ℕ) (events : List LogEvent) (nodes : AreFewNodes events) (once : EachIsSentOnce events) (room : length events ≤ keep) where
+module _ (receives : Receives) (keep : ℕ) (files : ℕ → ℕ) (events : List LogEvent) (nodes : AreFewNodes events) (once : EachIsSentOnce events) (room : length events ≤ keep) where
   -- nothing is forgotten of the first n events
   record IsWhole (n : ℕ) (messages : KeptMessages) : Type 0 where
     pub keep_is : messages.keep ≡ keep
@@ -65,7 +65,7 @@ module _ (receives : Receives) (keep : ℕ) (events : List LogEvent) (nodes : Ar
     pub few_waiting : receive_count messages.awaited ≤ n
     pub sent : (d m : ℕ) → d < n → Sends events d m → IsSome (lookup (nat_eq m) messages.sent)
     pub waits : (e m : ℕ) → e < n → ReceivesMessage events e m → ((d : ℕ) → d < n → ¬ Sends events d m)
-        → Contains (waiting_for messages.awaited m) (records_at receives events e None)
+        → Contains (waiting_for messages.awaited m) (records_at receives files events e None)
 
   none_whole : IsWhole 0 (no_log keep).messages
   none_whole = record {
@@ -76,15 +76,15 @@ module _ (receives : Receives) (keep : ℕ) (events : List LogEvent) (nodes : Ar
     waits = λ e m before. absurd (omega arith);
   }
 
-  module _ (n : ℕ) (exists : n < length events) (kept : KeptLog) (known : IsKnown receives events n kept) (whole : IsWhole n kept.messages) where
+  module _ (n : ℕ) (exists : n < length events) (kept : KeptLog) (known : IsKnown receives files events n kept) (whole : IsWhole n kept.messages) where
     abbrev messages : KeptMessages
     messages = kept.messages
 
     abbrev mine : Records
-    mine = own receives events n exists (nodes n exists) kept known
+    mine = own receives files events n exists (nodes n exists) kept known
 
-    mine_is : mine ≡ records_at receives events n None
-    mine_is = own_is receives events n exists (nodes n exists) kept known
+    mine_is : mine ≡ records_at receives files events n None
+    mine_is = own_is receives files events n exists (nodes n exists) kept known
 
     -- before n, or at n
     earlier : (d : ℕ) → d < suc n → (d < n) ⊎ (d ≡ n)
@@ -107,7 +107,7 @@ module _ (receives : Receives) (keep : ℕ) (events : List LogEvent) (nodes : Ar
 
     -- one that receives nothing adds none that waits
     waits_kept : ((m : ℕ) → ¬ ReceivesMessage events n m) → (e m : ℕ) → e < suc n → ReceivesMessage events e m
-        → ((d : ℕ) → d < suc n → ¬ Sends events d m) → Contains (waiting_for messages.awaited m) (records_at receives events e None)
+        → ((d : ℕ) → d < suc n → ¬ Sends events d m) → Contains (waiting_for messages.awaited m) (records_at receives files events e None)
     waits_kept receives_none e m before received none = elim (earlier e before) [
       | inl less ↦ whole.waits e m less received (no_send_before m none)
       | inr at ↦ absurd (receives_none m (subst (λ x. ReceivesMessage events x m) at received))
@@ -134,34 +134,34 @@ module _ (receives : Receives) (keep : ℕ) (events : List LogEvent) (nodes : Ar
       k = message.0
 
       abbrev put : List (ℕ × Claimed)
-      put = put_entries nat_eq (lru_cache messages.sent messages.keep) k (claimed_at events n)
+      put = put_entries nat_eq (lru_cache messages.sent messages.keep) k (claimed_at files events n)
 
       sent_now : (d m : ℕ) → d < suc n → Sends events d m → IsSome (lookup (nat_eq m) put)
       sent_now d m before sends = elim (cases_Bool (nat_eq m k)) [
         | inl test ↦
-            some_of (lookup (nat_eq m) put) (claimed_at events n)
-            (ap (λ (x : ℕ). lookup (nat_eq x) put) (eqb-true m k test) ∙ lookup-put_entries nat_eq (lru_cache messages.sent messages.keep) k (claimed_at events n) nat_eq_equiv)
+            some_of (lookup (nat_eq m) put) (claimed_at files events n)
+            (ap (λ (x : ℕ). lookup (nat_eq x) put) (eqb-true m k test) ∙ lookup-put_entries nat_eq (lru_cache messages.sent messages.keep) k (claimed_at files events n) nat_eq_equiv)
         | inr test ↦ elim (earlier d before) [
           | inl less ↦
               let few = whole.few_sent in
               let is_keep = whole.keep_is in
               let there : length messages.sent < messages.keep = omega arith in
-              rw (lookup-put_others messages.keep k (claimed_at events n) messages.sent m (differ_by_test m k test) there) (whole.sent d m less sends)
+              rw (lookup-put_others messages.keep k (claimed_at files events n) messages.sent m (differ_by_test m k test) there) (whole.sent d m less sends)
           | inr at ↦ absurd (differ_by_test m k test (same_sent (event_at events n).kind m message (subst (λ x. Sends events x m) at sends).kind is))
         ]
       ]
 
       waits_now : (e m : ℕ) → e < suc n → ReceivesMessage events e m → ((d : ℕ) → d < suc n → ¬ Sends events d m)
-          → Contains (waiting_for (remove_entry (nat_eq k) messages.awaited) m) (records_at receives events e None)
+          → Contains (waiting_for (remove_entry (nat_eq k) messages.awaited) m) (records_at receives files events e None)
       waits_now e m before received none =
           let differ : m ≢ k = λ same. none n (omega arith) (record { exists = exists; kind = is ∙ ap (λ (x : ℕ). Send (record { 0 = x })) (sym same) }) in
-          subst (λ ws. Contains ws (records_at receives events e None)) (sym (waiting_others messages.awaited m k differ))
+          subst (λ ws. Contains ws (records_at receives files events e None)) (sym (waiting_others messages.awaited m k differ))
           (waits_kept (no_receive_if (Send message) is (λ x same. cc)) e m before received none)
 
       whole_send : IsWhole (suc n) (after_kind messages mine (Send message))
       whole_send = record {
         keep_is = whole.keep_is;
-        few_sent = let few = whole.few_sent in let more = length-put messages.keep k (claimed_at events n) messages.sent in omega arith;
+        few_sent = let few = whole.few_sent in let more = length-put messages.keep k (claimed_at files events n) messages.sent in omega arith;
         few_waiting = let few = whole.few_waiting in let less = count-remove k messages.awaited in omega arith;
         sent = sent_now;
         waits = waits_now;
@@ -193,21 +193,21 @@ module _ (receives : Receives) (keep : ℕ) (events : List LogEvent) (nodes : Ar
       }
 
       more_waits : (e m : ℕ) → e < suc n → ReceivesMessage events e m → ((d : ℕ) → d < suc n → ¬ Sends events d m)
-          → Contains (waiting_for (with_receive messages.awaited r mine) m) (records_at receives events e None)
+          → Contains (waiting_for (with_receive messages.awaited r mine) m) (records_at receives files events e None)
       more_waits e m before received none = elim (cases_Bool (nat_eq m r)) [
         | inr test ↦
             let differ = differ_by_test m r test in
-            rw test (subst (λ ws. Contains ws (records_at receives events e None)) (sym (waiting_others messages.awaited m r differ)) (elim (earlier e before) [
+            rw test (subst (λ ws. Contains ws (records_at receives files events e None)) (sym (waiting_others messages.awaited m r differ)) (elim (earlier e before) [
               | inl less ↦ whole.waits e m less received (no_send_before m none)
               | inr at ↦ absurd (differ (same_received (event_at events n).kind m message (subst (λ x. ReceivesMessage events x m) at received).kind is))
             ]))
         | inl test ↦ rw test (elim (earlier e before) [
           | inl less ↦
-              Contains-append_left (waiting_for messages.awaited r) (mine ∷ []) (records_at receives events e None)
-              (subst (λ x. Contains (waiting_for messages.awaited x) (records_at receives events e None)) (eqb-true m r test)
+              Contains-append_left (waiting_for messages.awaited r) (mine ∷ []) (records_at receives files events e None)
+              (subst (λ x. Contains (waiting_for messages.awaited x) (records_at receives files events e None)) (eqb-true m r test)
               (whole.waits e m less received (no_send_before m none)))
           | inr at ↦
-              subst (λ w. Contains (waiting_for messages.awaited r ++ mine ∷ []) w) (mine_is ∙ ap (λ (x : ℕ). records_at receives events x None) (sym at))
+              subst (λ w. Contains (waiting_for messages.awaited r ++ mine ∷ []) w) (mine_is ∙ ap (λ (x : ℕ). records_at receives files events x None) (sym at))
               (Contains-push (waiting_for messages.awaited r) mine)
         ])
       ]
@@ -226,7 +226,7 @@ module _ (receives : Receives) (keep : ℕ) (events : List LogEvent) (nodes : Ar
             few_waiting = let more = ap (λ ws. receive_count ws) latest in let count = count-with_receive messages.awaited r mine in omega arith;
             sent = sent_kept no_send messages.sent (λ m some. some);
             waits = λ e m before received none.
-                subst (λ ws. Contains (waiting_for ws m) (records_at receives events e None)) (sym latest) (more_waits e m before received none);
+                subst (λ ws. Contains (waiting_for ws m) (records_at receives files events e None)) (sym latest) (more_waits e m before received none);
           }
 
       whole_by : (o : Option Claimed) → lookup (nat_eq r) messages.sent ≡ o → IsWhole (suc n) (received_from messages r mine o)
@@ -240,14 +240,14 @@ module _ (receives : Receives) (keep : ℕ) (events : List LogEvent) (nodes : Ar
     whole_by_kind (Send message) is = whole_send message is
     whole_by_kind (Receive message) is = whole_by message is (lookup (nat_eq message.0) messages.sent) refl
 
-    whole_next : IsWhole (suc n) (after_event kept (ruled_at receives events n)).messages
+    whole_next : IsWhole (suc n) (after_event kept (ruled_at receives files events n)).messages
     whole_next = whole_by_kind (event_at events n).kind refl
 
     -- what is told
     abbrev Tells : LogKind → Records → Type 0
     Tells kind records = Contains (if_any (event_told messages mine kind) ++ waited_told messages mine kind) records
 
-    told_now : (kind : LogKind) → ((message : MessageId) → kind ≢ Receive message) → Tells kind (records_at receives events n None)
+    told_now : (kind : LogKind) → ((message : MessageId) → kind ≢ Receive message) → Tells kind (records_at receives files events n None)
     told_now Local other = subst (λ w. Tells Local w) mine_is (Contains-head mine [])
     told_now Restart other = subst (λ w. Tells Restart w) mine_is (Contains-head mine [])
     told_now Outside other = subst (λ w. Tells Outside w) mine_is (Contains-head mine [])
@@ -255,48 +255,48 @@ module _ (receives : Receives) (keep : ℕ) (events : List LogEvent) (nodes : Ar
     told_now (Receive message) other = absurd (other message refl)
 
     tells_received : (m d : ℕ) → d < n → Sends events d m → (o : Option Claimed) → lookup (nat_eq m) messages.sent ≡ o → IsSome o
-        → Contains (if_any (records_with mine o) ++ []) (records_at receives events n (Some d))
+        → Contains (if_any (records_with mine o) ++ []) (records_at receives files events n (Some d))
     tells_received m d before sends None found some = absurd cc
     tells_received m d before sends (Some c) found some =
         let entry = Contains-lookup (nat_eq m) messages.sent c found in
         let (other, other_before, other_sends, c_is) = known.sent (entry.0, c) entry.1 in
         let key : entry.0 ≡ m = sym (eqb-true m entry.0 entry.2) in
         let same : other ≡ d = one_send events once other d m (subst (λ x. Sends events other x) key other_sends) sends in
-        let told : with_send c mine ≡ records_at receives events n (Some d) =
-        ap (with_send c) mine_is ∙ ap (λ (x : Claimed). with_send x (records_at receives events n None)) (c_is ∙ ap (claimed_at events) same) in
+        let told : with_send c mine ≡ records_at receives files events n (Some d) =
+        ap (with_send c) mine_is ∙ ap (λ (x : Claimed). with_send x (records_at receives files events n None)) (c_is ∙ ap (claimed_at files events) same) in
         subst (λ w. Contains (with_send c mine ∷ []) w) told (Contains-head (with_send c mine) [])
 
     told_received : (m d : ℕ) → d < n → Sends events d m → ReceivesMessage events n m
-        → Contains (told_as kept (ruled_at receives events n)) (records_at receives events n (Some d))
+        → Contains (told_as kept (ruled_at receives files events n)) (records_at receives files events n (Some d))
     told_received m d before sends received =
-        subst (λ kind. Tells kind (records_at receives events n (Some d))) (sym received.kind)
+        subst (λ kind. Tells kind (records_at receives files events n (Some d))) (sym received.kind)
         (tells_received m d before sends (lookup (nat_eq m) messages.sent) refl (whole.sent d m before sends))
 
     told_waited : (e m : ℕ) → e < n → Sends events n m → ReceivesMessage events e m
-        → Contains (told_as kept (ruled_at receives events n)) (records_at receives events e (Some n))
+        → Contains (told_as kept (ruled_at receives files events n)) (records_at receives files events e (Some n))
     told_waited e m before sends received =
         let none : (d : ℕ) → d < n → ¬ Sends events d m = λ d less other. (let same = one_send events once d n m other sends in omega arith) in
-        subst (λ kind. Tells kind (records_at receives events e (Some n))) (sym sends.kind)
-        (Contains-append_right (mine ∷ []) (waited_for messages m (claimed_at events n)) (records_at receives events e (Some n))
-        (mapped_there (with_send (claimed_at events n)) (waiting_for messages.awaited m) (records_at receives events e None) (whole.waits e m before received none)))
+        subst (λ kind. Tells kind (records_at receives files events e (Some n))) (sym sends.kind)
+        (Contains-append_right (mine ∷ []) (waited_for messages m (claimed_at files events n)) (records_at receives files events e (Some n))
+        (mapped_there (with_send (claimed_at files events n)) (waiting_for messages.awaited m) (records_at receives files events e None) (whole.waits e m before received none)))
 
-  whole_after : (n : ℕ) → n ≤ length events → IsWhole n (kept_after receives keep events n).messages
+  whole_after : (n : ℕ) → n ≤ length events → IsWhole n (kept_after receives keep files events n).messages
   whole_after zero within = none_whole
   whole_after (suc n) within =
-      whole_next n (omega arith) (kept_after receives keep events n) (known_after receives events keep nodes n (omega arith)) (whole_after n (omega arith))
+      whole_next n (omega arith) (kept_after receives keep files events n) (known_after receives files events keep nodes n (omega arith)) (whole_after n (omega arith))
 
   module _ (n : ℕ) (exists : n < length events) where
     abbrev before_n : KeptLog
-    before_n = kept_after receives keep events n
+    before_n = kept_after receives keep files events n
 
-    known_n : IsKnown receives events n before_n
-    known_n = known_after receives events keep nodes n (omega arith)
+    known_n : IsKnown receives files events n before_n
+    known_n = known_after receives files events keep nodes n (omega arith)
 
     whole_n : IsWhole n before_n.messages
     whole_n = whole_after n (omega arith)
 
   all_told : (e : ℕ) (send : Option ℕ) → e < length events → NamesSender events e send
-      → IsToldAt receives keep events (last_needed e send) (records_at receives events e send)
+      → IsToldAt receives keep files events (last_needed e send) (records_at receives files events e send)
   all_told e None exists names =
       told_now e exists (before_n e exists) (known_n e exists) (whole_n e exists) (event_at events e).kind
       (λ message is. names message.0 (record { exists = exists; kind = is }))
@@ -307,14 +307,14 @@ module _ (receives : Receives) (keep : ℕ) (events : List LogEvent) (nodes : Ar
     | inr differ ↦ elim differ [
       | inl less ↦
           let at : e ≡ max e d = omega arith in
-          subst (λ n. IsToldAt receives keep events n (records_at receives events e (Some d))) at
+          subst (λ n. IsToldAt receives keep files events n (records_at receives files events e (Some d))) at
           (told_received e exists (before_n e exists) (known_n e exists) (whole_n e exists) m d less sends received)
       | inr more ↦
           let at : d ≡ max e d = omega arith in
-          subst (λ n. IsToldAt receives keep events n (records_at receives events e (Some d))) at
+          subst (λ n. IsToldAt receives keep files events n (records_at receives files events e (Some d))) at
           (told_waited d sends.exists (before_n d sends.exists) (known_n d sends.exists) (whole_n d sends.exists) e m more sends received)
     ]
   ]
 
 pub tells_all : TellsAll
-tells_all receives keep events e send nodes once room exists names = all_told receives keep events nodes once room e send exists names
+tells_all receives keep files events e send nodes once room exists names = all_told receives keep files events nodes once room e send exists names

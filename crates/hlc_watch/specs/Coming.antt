@@ -12,19 +12,26 @@ use Rattle.hlc_log.specs.Events.{event_at}
 use Rattle.hlc_log.specs.Messages.{Receives as ReceivesMessage, SendsTo}
 use Rattle.hlc_log.specs.OrderSkeleton.{rules_in, skeleton_in}
 use Rattle.hlc_log.specs.Standing.{seq_at}
+use Rattle.hlc_watch.specs.declared.file_line.FileLine.{FileLine}
 use Rattle.hlc_watch.specs.declared.records.Claimed.{Claimed}
 use Rattle.hlc_watch.specs.declared.records.LineCauses.{LineCauses}
 use Rattle.hlc_watch.specs.declared.records.Records.{Records}
 use Rattle.hlc_watch.specs.declared.ruled_event.RuledEvent.{RuledEvent}
-use Rattle.hlc_watch.specs.Records.{ruled_by}
+use Rattle.hlc_watch.specs.Records.{ruled_by, told_reading}
+
+-- where the record at a place stands, by the number of its file
+abbrev pub line_of : (files : ℕ → ℕ) → List LogEvent → ℕ → FileLine
+line_of files events e = record { file = files e; number = (event_at events e).line }
 
 -- the event at a place, as a clock rule reads it
-abbrev pub ruled_at : Receives → List LogEvent → ℕ → RuledEvent
-ruled_at receives events e = ruled_by receives (event_at events e)
+abbrev pub ruled_at : Receives → (files : ℕ → ℕ) → List LogEvent → ℕ → RuledEvent
+ruled_at receives files events e = ruled_by receives (files e) (event_at events e)
 
 -- what the record at a place claims
-abbrev pub claimed_at : List LogEvent → ℕ → Claimed
-claimed_at events e = record { line = (event_at events e).line; stamp = (event_at events e).stamp }
+abbrev pub claimed_at : (files : ℕ → ℕ) → List LogEvent → ℕ → Claimed
+claimed_at files events e =
+    let event = event_at events e in
+    record { node = event.node; line = line_of files events e; reading = told_reading event; stamp = event.stamp }
 
 -- the latest event of a node that came before the one at a place
 abbrev pub latest_of : List LogEvent → (node n : ℕ) → Option ℕ
@@ -41,11 +48,11 @@ NamesSender events e None = (m : ℕ) → ¬ ReceivesMessage events e m
 NamesSender events e (Some d) = SendsTo events d e
 
 -- the records of e, that of the event before it at its node, and that of its send
-abbrev pub records_at : Receives → List LogEvent → ℕ → (send : Option ℕ) → Records
-records_at receives events e send = record {
-  event = ruled_at receives events e;
-  previous = option_map (claimed_at events) (previous_at events e);
-  send = option_map (claimed_at events) send;
+abbrev pub records_at : Receives → (files : ℕ → ℕ) → List LogEvent → ℕ → (send : Option ℕ) → Records
+records_at receives files events e send = record {
+  event = ruled_at receives files events e;
+  previous = option_map (claimed_at files events) (previous_at events e);
+  send = option_map (claimed_at files events) send;
 }
 
 -- the place of the last of these
@@ -59,8 +66,8 @@ NodesStandAsTheyCome events =
     (d e : ℕ) → d < e → e < length events → (event_at events d).node.0 ≡ (event_at events e).node.0 → seq_at events d ≤ seq_at events e
 
 -- each event has a line of its own
-abbrev pub LinesDiffer : List LogEvent → Type 0
-LinesDiffer events = (d e : ℕ) → d < e → e < length events → (event_at events d).line ≢ (event_at events e).line
+abbrev pub LinesDiffer : (files : ℕ → ℕ) → List LogEvent → Type 0
+LinesDiffer files events = (d e : ℕ) → d < e → e < length events → line_of files events d ≢ line_of files events e
 
 -- the events of a log in an order, as a clock rule reads them
 abbrev pub clocks_in : Receives → List LogEvent → List ℕ → ClockEvents
@@ -76,14 +83,14 @@ seen_in receives events order k =
     seen_at (clocks_in receives events order) (stamps_in events order) (λ j. (event_at events (place_at order j)).carried) k
 
 -- the line of the event at k
-abbrev pub line_at : List LogEvent → List ℕ → ℕ → ℕ
-line_at events order k = (event_at events (place_at order k)).line
+abbrev pub line_at : (files : ℕ → ℕ) → List LogEvent → List ℕ → ℕ → FileLine
+line_at files events order k = line_of files events (place_at order k)
 
 -- causes in an order, by lines
-abbrev pub by_lines : List LogEvent → List ℕ → Causes → LineCauses
-by_lines events order causes = record {
+abbrev pub by_lines : (files : ℕ → ℕ) → List LogEvent → List ℕ → Causes → LineCauses
+by_lines files events order causes = record {
   behind = causes.behind;
-  not_above_previous = option_map (λ d. line_at events order d.0) causes.not_above_previous;
-  not_above_send = option_map (λ d. line_at events order d.0) causes.not_above_send;
+  not_above_previous = option_map (λ d. line_at files events order d.0) causes.not_above_previous;
+  not_above_send = option_map (λ d. line_at files events order d.0) causes.not_above_send;
   ahead = causes.ahead;
 }

@@ -15,9 +15,9 @@ use Rattle.hlc_watch.specs.Records.{line_causes}
 use Rattle.hlc_watch.specs.Watching.{KeptLog, after_event, event_of, no_log, waited_of}
 
 -- what is kept once the first n events have come
-abbrev pub kept_after : Receives → (keep : ℕ) → List LogEvent → ℕ → KeptLog
-kept_after receives keep events zero = no_log keep
-kept_after receives keep events (suc n) = after_event (kept_after receives keep events n) (ruled_at receives events n)
+abbrev pub kept_after : Receives → (keep : ℕ) → (files : ℕ → ℕ) → List LogEvent → ℕ → KeptLog
+kept_after receives keep files events zero = no_log keep
+kept_after receives keep files events (suc n) = after_event (kept_after receives keep files events n) (ruled_at receives files events n)
 
 -- an answer as a list
 abbrev pub if_any : Option Records → List Records
@@ -29,42 +29,42 @@ abbrev pub told_as : KeptLog → RuledEvent → List Records
 told_as kept event = if_any (event_of kept event) ++ waited_of kept event
 
 -- records are told as the event at n comes
-abbrev pub IsToldAt : Receives → (keep : ℕ) → List LogEvent → ℕ → Records → Type 0
-IsToldAt receives keep events n records = Contains (told_as (kept_after receives keep events n) (ruled_at receives events n)) records
+abbrev pub IsToldAt : Receives → (keep : ℕ) → (files : ℕ → ℕ) → List LogEvent → ℕ → Records → Type 0
+IsToldAt receives keep files events n records = Contains (told_as (kept_after receives keep files events n) (ruled_at receives files events n)) records
 
 -- the nodes are as few as are kept
 abbrev pub AreFewNodes : List LogEvent → Type 0
 AreFewNodes events = (e : ℕ) → e < length events → (event_at events e).node.0 < 65536
 
 -- records are those of the event at e, and the last of them comes at n
-pub record AreRecordsOf (receives : Receives) (events : List LogEvent) (n : ℕ) (records : Records) : Type 0 where
+pub record AreRecordsOf (receives : Receives) (files : ℕ → ℕ) (events : List LogEvent) (n : ℕ) (records : Records) : Type 0 where
   pub place : ℕ
   pub send : Option ℕ
   pub names : NamesSender events place send
-  pub are : records ≡ records_at receives events place send
+  pub are : records ≡ records_at receives files events place send
   pub last : n ≡ last_needed place send
 
 -- whatever is forgotten, only records of events are told, and as soon as the last of the three has come
 abbrev pub TellsRecords : Type 0
-TellsRecords = (receives : Receives) (keep : ℕ) (events : List LogEvent) (n : ℕ) (records : Records) → AreFewNodes events → n < length events →
-    IsToldAt receives keep events n records → AreRecordsOf receives events n records
+TellsRecords = (receives : Receives) (keep : ℕ) (files : ℕ → ℕ) (events : List LogEvent) (n : ℕ) (records : Records) → AreFewNodes events → n < length events →
+    IsToldAt receives keep files events n records → AreRecordsOf receives files events n records
 
 -- where no more events come than messages are kept, each event's are told, but of a receive that nobody sends
 abbrev pub TellsAll : Type 0
-TellsAll = (receives : Receives) (keep : ℕ) (events : List LogEvent) (e : ℕ) (send : Option ℕ) → AreFewNodes events → EachIsSentOnce events →
-    length events ≤ keep → e < length events → NamesSender events e send → IsToldAt receives keep events (last_needed e send) (records_at receives events e send)
+TellsAll = (receives : Receives) (keep : ℕ) (files : ℕ → ℕ) (events : List LogEvent) (e : ℕ) (send : Option ℕ) → AreFewNodes events → EachIsSentOnce events →
+    length events ≤ keep → e < length events → NamesSender events e send → IsToldAt receives keep files events (last_needed e send) (records_at receives files events e send)
 
 -- how many records are told as the first n events come
-abbrev pub told_count : Receives → (keep : ℕ) → List LogEvent → ℕ → ℕ
-told_count receives keep events zero = 0
-told_count receives keep events (suc n) =
-    told_count receives keep events n + length (told_as (kept_after receives keep events n) (ruled_at receives events n))
+abbrev pub told_count : Receives → (keep : ℕ) → (files : ℕ → ℕ) → List LogEvent → ℕ → ℕ
+told_count receives keep files events zero = 0
+told_count receives keep files events (suc n) =
+    told_count receives keep files events n + length (told_as (kept_after receives keep files events n) (ruled_at receives files events n))
 
 -- each event that came is told, or waits, or is forgotten
 abbrev pub EachIsCounted : Type 0
-EachIsCounted = (receives : Receives) (keep : ℕ) (events : List LogEvent) (n : ℕ) → n < 2 ^ 64 →
-    let messages = (kept_after receives keep events n).messages in
-    told_count receives keep events n + (receive_count messages.awaited + messages.forgotten) ≡ n
+EachIsCounted = (receives : Receives) (keep : ℕ) (files : ℕ → ℕ) (events : List LogEvent) (n : ℕ) → n < 2 ^ 64 →
+    let messages = (kept_after receives keep files events n).messages in
+    told_count receives keep files events n + (receive_count messages.awaited + messages.forgotten) ≡ n
 
 -- however many events come, the memory is bounded
 pub record IsSmall (keep : ℕ) (kept : KeptLog) : Type 0 where
@@ -73,14 +73,14 @@ pub record IsSmall (keep : ℕ) (kept : KeptLog) : Type 0 where
   pub waiting : receive_count kept.messages.awaited ≤ keep
 
 abbrev pub StaysSmall : Type 0
-StaysSmall = (receives : Receives) (keep : ℕ) (events : List LogEvent) (n : ℕ) → 0 < keep → keep < 2 ^ 32 →
-    IsSmall keep (kept_after receives keep events n)
+StaysSmall = (receives : Receives) (keep : ℕ) (files : ℕ → ℕ) (events : List LogEvent) (n : ℕ) → 0 < keep → keep < 2 ^ 32 →
+    IsSmall keep (kept_after receives keep files events n)
 
 -- causes are local: in whatever causal order, the rules that an event breaks are those which its three records tell
 abbrev pub RecordsTellCauses : Type 0
-RecordsTellCauses = (receives : Receives) (events : List LogEvent) (order : List ℕ) (full k : ℕ) (send : Option ℕ) (answer : Causes) →
-    EachIsSentOnce events → LinesDiffer events → NodesStandAsTheyCome events → IsCausalOrder events order → k < length order →
+RecordsTellCauses = (receives : Receives) (files : ℕ → ℕ) (events : List LogEvent) (order : List ℕ) (full k : ℕ) (send : Option ℕ) (answer : Causes) →
+    EachIsSentOnce events → LinesDiffer files events → NodesStandAsTheyCome events → IsCausalOrder events order → k < length order →
     let e = place_at order k in
     NamesSender events e send →
     NamesCauses (clocks_in receives events order) (seen_in receives events order k) full k answer →
-    line_causes full (records_at receives events e send) ≡ by_lines events order answer
+    line_causes full (records_at receives files events e send) ≡ by_lines files events order answer

@@ -7,7 +7,8 @@
 //! - `Watch` keeps what is needed for that. `event` takes the next event, and gives the `Records` of those that are `Complete` now: of the event,
 //!   and of receives that came before it and waited for it. A receive whose send hasn't come waits.
 //! - `Records::causes` says which rules an event breaks: its `LineCauses`, which name other events by their lines.
-//! - A `RuledEvent` is an event of a log (`hlc_log`) as a clock rule reads it; `new` makes one.
+//! - A `RuledEvent` is an event of a log (`hlc_log`) as a clock rule reads it; `new` makes one. A log may be put together of several files, so a
+//!   `FileLine` is a line of one of them.
 //! - Only so many messages are remembered, the latest, and as many receives wait. A receive of a message that is forgotten waits until it is
 //!   forgotten, too: `waiting` and `forgotten` count those that have no causes.
 //! - `laws` says that the causes are those that the events break in any causal order of the log, and that none is missing where nothing is
@@ -21,23 +22,25 @@
 //! ```rust
 //! pub fn watch_event(watch: &mut Watch, event: &LogEvent) -> Result<Option<LineCauses>, AllocError>
 //!     requires { IsSmallCarried event.now.carried }
-//!     ensures causes { IfOk result (λ causes. causes ≡ option_map (line_causes (2 ^ 32 - 1)) (event_of watch.old (ruled_by Receives.Tick event.now))) }
-//!     ensures kept { OnOk result (watch.new ≡ after_event watch.old (ruled_by Receives.Tick event.now)) }
+//!     ensures causes { IfOk result (λ causes. causes ≡ option_map (line_causes (2 ^ 32 - 1)) (event_of watch.old (ruled_by Receives.Tick 0 event.now))) }
+//!     ensures kept { OnOk result (watch.new ≡ after_event watch.old (ruled_by Receives.Tick 0 event.now)) }
 //!     ensures unchanged { OnErr result (watch.new ≡ watch.old) }
 //! {
-//!     let complete = watch.event(RuledEvent::new(Receives::Tick, event))?;
+//!     let complete = watch.event(RuledEvent::new(Receives::Tick, 0, event))?;
 //!     Ok(complete.event.map(|records| records.causes(u32::MAX)))
 //! }
 //! ```
 #![tactic(auto)]
 
 mod awaited;
+mod file_line;
 pub mod laws;
 mod messages;
 mod records;
 mod ruled_event;
 mod watch;
 
+pub use file_line::FileLine;
 pub use records::{Claimed, LineCauses, Records};
 pub use ruled_event::RuledEvent;
 pub use watch::{Complete, Watch};

@@ -1,17 +1,22 @@
 // The three records that tell what an event breaks.
 
 ghost use Rattle.std.specs.Prelude.{◌≡◌, map};
-ghost use Rattle.hlc_watch.specs.Records.{claimed_by, line_causes, line_if, local_event_of, seen_stamp, with_send};
+ghost use Rattle.hlc_watch.specs.Records.{claimed_by, is_same_line, line_causes, line_if, local_event_of, seen_stamp, with_send};
 
+use crate::file_line::FileLine;
 use crate::ruled_event::RuledEvent;
 use hlc_causes::LocalEvent;
-use hlc_stamp::Stamp;
+use hlc_stamp::{NodeId, Stamp};
 
-/// The stamp that a line of a log claims.
+/// What a line of a log claims of an event.
 #[derive(Clone, Copy)]
 pub struct Claimed {
+    /// Where it happened.
+    pub node: NodeId,
     /// The line.
-    pub line: u32,
+    pub line: FileLine,
+    /// What the clock read, if the log tells that.
+    pub reading: Option<u64>,
     /// The stamp.
     pub stamp: Stamp,
 }
@@ -28,15 +33,15 @@ pub struct Records {
 }
 
 /// The rules that are broken at an event, as `hlc_causes::Causes` has them, with the lines of the events by whose stamps they are.
-#[derive(Clone, Copy, Debug, PartialEq, Eq)]
+#[derive(Clone, Copy)]
 pub struct LineCauses {
     /// Whether it is behind.
     pub behind: bool,
     /// The line of the event before it at its node, if it isn't above that one, or, where it doesn't tick, is below it.
-    pub not_above_previous: Option<u32>,
+    pub not_above_previous: Option<FileLine>,
     /// The line of the send of what it receives, if it isn't above that one, or, where it doesn't tick, is below it; by the stamp that the message
     /// carried, if the log tells that.
-    pub not_above_send: Option<u32>,
+    pub not_above_send: Option<FileLine>,
     /// The least stamp that could be written there, if it is ahead of that one.
     pub ahead: Option<Stamp>,
 }
@@ -47,7 +52,9 @@ impl RuledEvent {
         ensures { result ≡ claimed_by self.now }
     {
         Claimed {
+            node: self.node,
             line: self.line,
+            reading: self.reading,
             stamp: self.stamp,
         }
     }
@@ -86,14 +93,21 @@ impl Records {
         ensures { result ≡ seen_stamp self.now claimed }
     {
         match (self.send, self.event.carried) {
-            (Some(send), Some(carried)) if send.line == claimed.line => carried,
+            (Some(send), Some(carried)) if is_same_line(send.line, claimed.line) => carried,
             _ => claimed.stamp,
         }
     }
 }
 
+// Whether two lines are the same one.
+fn is_same_line(a: FileLine, b: FileLine) -> bool
+    ensures { result ≡ is_same_line a b }
+{
+    a.file == b.file && a.number == b.number
+}
+
 // The line of a record, if a rule is broken by its stamp.
-fn line_if(broken: bool, claimed: Option<Claimed>) -> Option<u32>
+fn line_if(broken: bool, claimed: Option<Claimed>) -> Option<FileLine>
     ensures { result ≡ line_if broken claimed }
 {
     if broken {

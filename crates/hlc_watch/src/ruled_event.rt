@@ -1,7 +1,8 @@
 ghost use Rattle.std.specs.Prelude.{◌≡◌};
 ghost use Rattle.hlc_log.specs.Events.{IsSmallCarried};
-ghost use Rattle.hlc_watch.specs.Records.{ruled_by};
+ghost use Rattle.hlc_watch.specs.Records.{rule_by, ruled_by, told_reading};
 
+use crate::file_line::FileLine;
 use hlc_causality::{EventRule, Receives};
 use hlc_log::{LogEvent, LogKind};
 use hlc_stamp::{NodeId, Stamp};
@@ -12,7 +13,9 @@ pub struct RuledEvent {
     /// Where it happened.
     pub node: NodeId,
     /// The line of the log that tells of it.
-    pub line: u32,
+    pub line: FileLine,
+    /// What the clock read, if the log tells that.
+    pub reading: Option<u64>,
     /// What the clock rule asks of it.
     pub rule: EventRule,
     /// What happened.
@@ -24,14 +27,18 @@ pub struct RuledEvent {
 }
 
 impl RuledEvent {
-    /// An event of a log whose clocks do this at receives. It has a rule of its own, or that of such clocks.
-    pub fn new(receives: Receives, event: &LogEvent) -> RuledEvent
+    /// An event of a log whose clocks do this at receives, on a line of a file with this number. It has a rule of its own, or that of such clocks.
+    pub fn new(receives: Receives, file: u32, event: &LogEvent) -> RuledEvent
         requires { IsSmallCarried event.now.carried }
-        ensures { result ≡ ruled_by receives event.now }
+        ensures { result ≡ ruled_by receives file event.now }
     {
         RuledEvent {
             node: event.node,
-            line: event.line,
+            line: FileLine {
+                file,
+                number: event.line,
+            },
+            reading: told_reading(event),
             rule: rule_of(receives, event),
             kind: event.kind,
             stamp: event.stamp,
@@ -40,10 +47,21 @@ impl RuledEvent {
     }
 }
 
+// What the clock read, if the log tells that.
+fn told_reading(event: &LogEvent) -> Option<u64>
+    ensures { result ≡ told_reading event.now }
+{
+    if event.has_reading {
+        Some(event.reading)
+    } else {
+        None
+    }
+}
+
 // What the clock rule asks of an event.
 fn rule_of(receives: Receives, event: &LogEvent) -> EventRule
     requires { IsSmallCarried event.now.carried }
-    ensures { result ≡ (ruled_by receives event.now).rule }
+    ensures { result ≡ rule_by receives event.now }
 {
     match event.own_rule(receives) {
         Some(rule) => rule,

@@ -1,6 +1,8 @@
+pub mod Answered
 pub mod EventsKept
 pub mod EventsTaken
-pub mod NodeNumbers
+pub mod Headers
+pub mod NameNumbers
 pub mod Records
 pub mod RowsAdded
 pub mod SoFar

@@ -37,15 +37,19 @@ adds_more a b c old mid new rows xs n x within before here =
     subst (λ (all : List Fields). AddsText a c old new (text_of all)) (sym more)
     (adds_joined a b c old mid new (flat_map rows (take n xs)) (rows (get_or xs n x)) before here)
 
+-- the row of one item more
+pub adds_row : {X : Type 0} (a b c : Option (List ℕ)) (old mid new : List ℕ) (row : X → Fields) (before : List X) (x : X)
+    → AddsText a b old mid (text_of (map row before)) → AddsText b c mid new (text_of_row (row x)) → AddsText a c old new (text_of (map row (before ++ x ∷ [])))
+adds_row a b c old mid new row before x h t =
+    subst (λ (rows : List Fields). AddsText a c old new (text_of rows)) (sym (map-append row before (x ∷ [])))
+    (adds_joined a b c old mid new (map row before) (row x ∷ []) h (adds_one b c mid new (row x) t))
+
 -- the row of one place more
 pub adds_row_of_place : (a b c : Option (List ℕ)) (old mid new : List ℕ) (row : ℕ → Fields) (n : ℕ)
     → AddsText a b old mid (text_of (map row (places_below n))) → AddsText b c mid new (text_of_row (row n))
     → AddsText a c old new (text_of (map row (places_below (n + 1))))
 adds_row_of_place a b c old mid new row n h t =
-    let more : map row (places_below (n + 1)) ≡ map row (places_below n) ++ row n ∷ [] =
-    ap (λ (k : ℕ). map row (places_below k)) (add-one n) ∙ map-append row (places_below n) (n ∷ []) in
-    subst (λ (all : List Fields). AddsText a c old new (text_of all)) (sym more)
-    (adds_joined a b c old mid new (map row (places_below n)) (row n ∷ []) h (adds_one b c mid new (row n) t))
+    subst (λ (k : ℕ). AddsText a c old new (text_of (map row (places_below k)))) (sym (add-one n)) (adds_row a b c old mid new row (places_below n) n h t)
 
 -- rows that were added to a buffer without rows are handed out
 pub appends-from_none : (a b c : Option (List ℕ)) (waiting text : List ℕ) → AddsText a b [] waiting text → Appends b c waiting → Appends a c text

@@ -1,50 +1,89 @@
 -- A log that is watched, as far as its records have come.
-use Rattle.std.proofs.Common.{◌≡◌, ◌∙◌, ◌+◌, ◌≤◌, Bool, true, false, ℕ, List, [], ◌∷◌, ◌++◌, Option, Some, None, Result, ap, arith, cond, inl, inr, refl, subst, sym}
-use Rattle.std.specs.Prelude.{is_some}
-use Rattle.std.proofs.lemmas.List.{map-append}
+use Rattle.std.proofs.Common.{◌≡◌, ◌∙◌, ◌+◌, ◌≤◌, Bool, true, false, ℕ, List, [], ◌∷◌, ◌++◌, Option, Some, None, ap, arith, cond, inl, inr, length, refl, subst, sym}
+use Rattle.std.specs.Prelude.{is_some, slice_index_or}
+use Rattle.std.proofs.lemmas.List.{length-set, map-append}
 use Rattle.std.specs.Io.KnownBytes.{Appends}
 use Rattle.hlc_csv.specs.RecordReader.{AreAll, AreAllOpen, AreFirst, HasReadTo, ReadsOne}
 use Rattle.hlc_csv.specs.Rows.{Fields, text_of}
 use Rattle.hlc_csv.specs.declared.record_reader.RecordReader.{RecordReader}
 use Rattle.hlc_log_text.specs.FaultRule.{leaves_out}
-use Rattle.hlc_log_text.specs.LogHeader.{IsHeaderAfter, SaysNext}
-use Rattle.hlc_log_text.specs.LogItem.{LogItem}
+use Rattle.hlc_log_text.specs.FileMarks.{begun_file}
+use Rattle.hlc_log_text.specs.LogHeader.{said_item}
+use Rattle.hlc_log_text.specs.NamedEvent.{NamedEvent}
 use Rattle.hlc_log_text.specs.declared.bad_log.BadLog.{BadLog}
 use Rattle.hlc_log_text.specs.declared.bad_log.BadLog.TheVariants as bad
 use Rattle.hlc_log_text.specs.declared.fault_rule.FaultRule.{FaultRule}
 use Rattle.hlc_log_text.specs.declared.log_header.LogHeader.{LogHeader}
-use Rattle.hlc_log_text.specs.declared.log_header.RecordItem.{RecordItem}
-use Rattle.hlc_watched_log.specs.Taken.{IsTaken, IsWhole, Takes, ends_with}
-use Rattle.hlc_watched_log.specs.Watched.{WatchedLog, bad_of, bad_row, log_at, no_events, rows_at, rows_by, said_event, summary_rows}
-use Rattle.hlc_watched_log.specs.Watching.{IsWatched, Placed, WatchState, at_first, ended_with, fields_in, lines_in, log_after, read_rules, rows_told, said_next, state_after}
+use Rattle.hlc_watched_log.specs.Answered.{Answers, AreHeadersAfter, IsAnswered}
+use Rattle.hlc_watched_log.specs.Files.{KeptFiles, last_before, line_here, number_at}
+use Rattle.hlc_watched_log.specs.Numbers.{name_number, with_number}
+use Rattle.hlc_watched_log.specs.Taken.{IsWhole, ends_with}
+use Rattle.hlc_watched_log.specs.Watched.{WatchedLog, bad_of, bad_row, log_by, no_events, on_line, rows_by, said_event, summary_rows}
+use Rattle.hlc_watched_log.specs.Watching.{IsWatched, Placed, WatchState, at_first, bad_by_mark, bad_next, bad_row_after, ended_with, fields_in, lines_in, log_after, rows_by_mark, rows_next, rows_told, said_next, state_after, state_by_mark, state_next}
 use Rattle.hlc_watched_log.specs.declared.outcome.WatchOutcome.TheVariants as outcome
 use Rattle.hlc_watched_log.specs.declared.watch_rules.WatchRules.{WatchRules}
+use Rattle.hlc_watched_log.proofs.Headers.{headers-length}
+use Rattle.hlc_watched_log.proofs.NameNumbers.{with_number-bounds, with_number-together}
 use Rattle.hlc_watched_log.proofs.Records.{rows_from-more, state_after-more}
 use Rattle.hlc_watched_log.proofs.RowsAdded.{appends_joined, appends_none}
 
 -- these records came, and were answered
-pub record SoFar {R : Type 0} (rules : WatchRules) (rem : R → Option (List ℕ)) (initial input : RecordReader R) (header : LogHeader) (log : WatchedLog)
+pub record SoFar {R : Type 0} (rules : WatchRules) (rem : R → Option (List ℕ)) (initial input : RecordReader R) (headers : List LogHeader) (log : WatchedLog)
     (before now : Option (List ℕ)) (count : ℕ) : Type 0 where
   pub records : List Placed
   pub read : (bytes : Option (List ℕ)) → HasReadTo rem initial bytes [] [] → HasReadTo rem input bytes (fields_in records) (lines_in records)
-  pub header_is : IsHeaderAfter (state_after rules (at_first rules) records).items header
+  pub headers_are : AreHeadersAfter (state_after rules (at_first rules) records).items headers
   pub log_is : log ≡ log_after rules records
   pub written : Appends before now (text_of (rows_told rules records))
   pub whole : IsWhole log
   pub few : log.events ≤ count
+  pub one_each : length headers ≡ length log.files.counted
+  pub files : length log.files.counted ≤ count + 1
 
-pub so_far-none : {R : Type 0} (rules : WatchRules) (rem : R → Option (List ℕ)) (initial : RecordReader R) (header : LogHeader) (log : WatchedLog)
-    (before : Option (List ℕ)) → IsHeaderAfter [] header → log ≡ no_events rules.keep → IsWhole log
-    → SoFar rules rem initial initial header log before before 0
-so_far-none rules rem initial header log before begun is whole = record {
+pub so_far-none : {R : Type 0} (rules : WatchRules) (rem : R → Option (List ℕ)) (initial : RecordReader R) (headers : List LogHeader) (log : WatchedLog)
+    (before : Option (List ℕ)) → AreHeadersAfter ([] ∷ []) headers → length headers ≡ 1 → log ≡ no_events rules.keep → IsWhole log
+    → SoFar rules rem initial initial headers log before before 0
+so_far-none rules rem initial headers log before begun one is whole = record {
   records = [];
   read = λ bytes h. h;
-  header_is = begun;
+  headers_are = begun;
   log_is = is;
   written = appends_none before;
   whole = whole;
   few = let none : log.events ≡ 0 = ap (λ (log : WatchedLog). log.events) is in omega arith;
+  one_each = let first : length log.files.counted ≡ 1 = ap (λ (log : WatchedLog). length log.files.counted) is in omega arith;
+  files = let first : length log.files.counted ≡ 1 = ap (λ (log : WatchedLog). length log.files.counted) is in omega arith;
 }
+
+-- one record begins one file at most, and each file has its items
+files-kept : (rules : WatchRules) (log : WatchedLog) (why : Option BadLog) (event : Option NamedEvent) → (log_by rules log why event).files ≡ log.files
+files-kept rules log (Some why) event = refl
+files-kept rules log None None = refl
+files-kept rules log None (Some named) = refl
+
+module _ (rules : WatchRules) (state : WatchState) (next : Placed) (each : length state.items ≡ length state.log.files.counted) where
+  abbrev IsOneMore : WatchState → Type 0
+  IsOneMore after =
+      (length after.items ≡ length after.log.files.counted) × (length after.log.files.counted ≤ length state.log.files.counted + 1)
+
+  one_by_mark : (mark : Option (List ℕ)) → IsOneMore (state_by_mark rules state next mark)
+  one_by_mark None =
+      let said = said_next rules state next in
+      let file = state.log.files.current in
+      let items = length-set state.items file (slice_index_or state.items file [] ++ said_item said ∷ []) in
+      let log = on_line state.log next.1 in
+      let files = ap (λ (files : KeptFiles). length files.counted) (files-kept rules log (bad_of rules.records.form log.names.nodes said) (said_event said)) in
+      (items ∙ each ∙ sym files, omega (arith, files))
+  one_by_mark (Some name) =
+      let file = name_number state.log.names.files name + 1 in
+      let old = state.log.files in
+      let together = with_number-together [] 0 state.items old.counted file each in
+      let set = length-set (with_number 0 old.counted file) old.current (number_at old (last_before old next.1)) in
+      let bounds = with_number-bounds 0 old.counted file in
+      (together ∙ sym set, omega (arith, set, bounds.1))
+
+  one_file_more : IsOneMore (state_next rules state next)
+  one_file_more = one_by_mark (begun_file next.0)
 
 -- the fields and the lines with one record more
 fields-more : (records : List Placed) (next : Placed) → fields_in (records ++ next ∷ []) ≡ fields_in records ++ next.0 ∷ []
@@ -72,8 +111,8 @@ ends_some faults (Some reason) why is = by_test (leaves_out faults reason) refl 
       let same : reason ≡ why = cc in
       (is, subst (λ (r : BadLog). leaves_out faults r ≡ false) same at)
 
-module _ {R : Type 0} (rules : WatchRules) (rem : R → Option (List ℕ)) (initial input : RecordReader R) (header : LogHeader) (log : WatchedLog)
-    (before now : Option (List ℕ)) (count : ℕ) (h : SoFar rules rem initial input header log before now count) where
+module _ {R : Type 0} (rules : WatchRules) (rem : R → Option (List ℕ)) (initial input : RecordReader R) (headers : List LogHeader) (log : WatchedLog)
+    (before now : Option (List ℕ)) (count : ℕ) (h : SoFar rules rem initial input headers log before now count) where
   abbrev state : WatchState
   state = state_after rules (at_first rules) h.records
 
@@ -83,57 +122,68 @@ module _ {R : Type 0} (rules : WatchRules) (rem : R → Option (List ℕ)) (init
       (bytes : Option (List ℕ)) (records : List Fields) (lines : List ℕ) → HasReadTo rem input bytes records lines
       → ReadsOne rem new bytes (records ++ fields ∷ []) (lines ++ line ∷ []) is_open
 
-  module _ (new : RecordReader R) (fields : Fields) (line : ℕ) (reads : Reads new fields line false) (placed : Fields) (told : Result RecordItem BadLog)
-      (later : Option (List ℕ)) (new_header : LogHeader) (new_log : WatchedLog) (ends : Option BadLog)
-      (says : SaysNext (read_rules rules.records) header fields placed new_header told) (takes : Takes rules told placed log line now later new_log ends) where
+  module _ (new : RecordReader R) (fields : Fields) (line : ℕ) (reads : Reads new fields line false) (later : Option (List ℕ))
+      (new_headers : List LogHeader) (new_log : WatchedLog) (ends : Option BadLog)
+      (answers : Answers rules headers log (fields, line) now later new_headers new_log ends) where
     abbrev next : Placed
     next = (fields, line)
 
-    abbrev said : Result LogItem BadLog
-    said = said_next rules state next
+    answered : IsAnswered rules state next now later new_headers new_log ends
+    answered =
+        subst (λ (l : WatchedLog). IsAnswered rules (record { items = state.items; log = l }) next now later new_headers new_log ends) h.log_is
+        (answers state.items h.headers_are)
 
-    taken : IsTaken rules said log line now later new_log ends
-    taken = takes said (says state.items h.header_is).0
+    -- there is one for each file
+    each_item : length state.items ≡ length state.log.files.counted
+    each_item = headers-length state.items headers h.headers_are ∙ h.one_each ∙ ap (λ (l : WatchedLog). length l.files.counted) h.log_is
 
-    pub so_far-more : IsWhole new_log → new_log.events ≤ log.events + 1 → SoFar rules rem initial new new_header new_log before later (count + 1)
+    new_files : length new_log.files.counted ≡ length (state_next rules state next).log.files.counted
+    new_files = ap (λ (l : WatchedLog). length l.files.counted) answered.log_is
+
+    pub so_far-more : IsWhole new_log → new_log.events ≤ log.events + 1 → SoFar rules rem initial new new_headers new_log before later (count + 1)
     so_far-more whole counted = record {
       records = h.records ++ next ∷ [];
       read = λ bytes start. of_more (HasReadTo rem new bytes) h.records next (reads bytes (fields_in h.records) (lines_in h.records) (h.read bytes start)).0;
-      header_is =
-          subst (λ (s : WatchState). IsHeaderAfter s.items new_header) (sym (state_after-more rules (at_first rules) h.records next))
-          (says state.items h.header_is).1;
-      log_is =
-          taken.kept ∙ ap (λ (l : WatchedLog). log_at rules l line said) h.log_is
-          ∙ ap (λ (s : WatchState). s.log) (sym (state_after-more rules (at_first rules) h.records next));
+      headers_are =
+          subst (λ (s : WatchState). AreHeadersAfter s.items new_headers) (sym (state_after-more rules (at_first rules) h.records next)) answered.headers_are;
+      log_is = answered.log_is ∙ ap (λ (s : WatchState). s.log) (sym (state_after-more rules (at_first rules) h.records next));
       written =
           subst (λ (rows : List Fields). Appends before later (text_of rows)) (sym (rows_from-more rules (at_first rules) h.records next))
-          (appends_joined before now later (rows_told rules h.records) (rows_at rules state.log line said) h.written
-          (subst (λ (l : WatchedLog). Appends now later (text_of (rows_at rules l line said))) h.log_is taken.written));
+          (appends_joined before now later (rows_told rules h.records) (rows_next rules state next) h.written answered.written);
       whole = whole;
       few = let was = h.few in omega arith;
+      one_each =
+          sym (headers-length (state_next rules state next).items new_headers answered.headers_are) ∙ (one_file_more rules state next each_item).0 ∙ sym new_files;
+      files =
+          let was = h.files in
+          let same = ap (λ (l : WatchedLog). length l.files.counted) h.log_is in
+          let more = (one_file_more rules state next each_item).1 in
+          let now = new_files in
+          omega arith;
     }
 
     -- a bad record ends the watch
+    bad_rows : (why : BadLog) (mark : Option (List ℕ)) → bad_by_mark rules state next mark ≡ Some why
+        → rows_by_mark rules state next mark ≡ bad_row_after rules h.records line why ∷ []
+    bad_rows why None is = ap (λ (o : Option BadLog). rows_by rules (on_line state.log line) o (said_event (said_next rules state next))) is
+    bad_rows why (Some name) is = absurd (cc)
+
     watched_to_bad : (why : BadLog) → ends ≡ Some why → (bytes : Option (List ℕ)) → HasReadTo rem initial bytes [] []
         → IsWatched rules bytes before later outcome.BadLog
     watched_to_bad why is bytes start =
-        let found = ends_some rules.records.faults (bad_of rules.records.form log.nodes said) why (sym taken.ends ∙ is) in
-        let here : bad_of rules.records.form state.log.nodes said ≡ Some why =
-        ap (λ (l : WatchedLog). bad_of rules.records.form l.nodes said) (sym h.log_is) ∙ found.0 in
-        let row : rows_at rules log line said ≡ bad_row line why ∷ [] =
-        ap (λ (o : Option BadLog). rows_by rules log line o (said_event said)) found.0 in
+        let found = ends_some rules.records.faults (bad_next rules state next) why (sym answered.ends_is ∙ is) in
         inr (record {
           records = h.records;
           next = next;
           why = why;
           ends = inl (
             of_more (AreFirst bytes) h.records next (reads bytes (fields_in h.records) (lines_in h.records) (h.read bytes start)).1,
-            here,
+            found.0,
             found.1,
           );
           written =
-              appends_joined before now later (rows_told rules h.records) (bad_row line why ∷ []) h.written
-              (subst (λ (rows : List Fields). Appends now later (text_of rows)) row taken.written);
+              appends_joined before now later (rows_told rules h.records) (bad_row_after rules h.records line why ∷ []) h.written
+              (subst (λ (rows : List Fields). Appends now later (text_of rows)) (bad_rows why (begun_file fields) found.0) answered.written);
           outcome = refl;
         })
 
@@ -145,15 +195,20 @@ module _ {R : Type 0} (rules : WatchRules) (rem : R → Option (List ℕ)) (init
     watched_to_end is bytes start = let some = some_end ends is in watched_to_bad some.0 some.1 bytes start
 
   -- so does one that is open
+  abbrev pub open_row : (line : ℕ) → WatchedLog → Fields
+  open_row line l = bad_row (on_line l line).names.files (line_here (on_line l line).files) bad.Quote
+
   pub watched_to_open : (new : RecordReader R) (fields : Fields) (line : ℕ) → Reads new fields line true → (later : Option (List ℕ))
-      → Appends now later (text_of (bad_row line bad.Quote ∷ [])) → (bytes : Option (List ℕ)) → HasReadTo rem initial bytes [] []
+      → Appends now later (text_of (open_row line log ∷ [])) → (bytes : Option (List ℕ)) → HasReadTo rem initial bytes [] []
       → IsWatched rules bytes before later outcome.BadLog
   watched_to_open new fields line reads later written bytes start = inr (record {
     records = h.records;
     next = (fields, line);
     why = bad.Quote;
     ends = inr (of_more (AreAllOpen bytes) h.records (fields, line) (reads bytes (fields_in h.records) (lines_in h.records) (h.read bytes start)), refl);
-    written = appends_joined before now later (rows_told rules h.records) (bad_row line bad.Quote ∷ []) h.written written;
+    written =
+        appends_joined before now later (rows_told rules h.records) (bad_row_after rules h.records line bad.Quote ∷ []) h.written
+        (subst (λ (l : WatchedLog). Appends now later (text_of (open_row line l ∷ []))) h.log_is written);
     outcome = refl;
   })
 

@@ -1,6 +1,9 @@
+pub mod Answered
 pub mod CauseRows
+pub mod Files
 pub mod Laws
 pub mod Numbers
+pub mod Skews
 pub mod Summary
 pub mod Taken
 pub mod Watched

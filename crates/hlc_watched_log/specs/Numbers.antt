@@ -1,5 +1,5 @@
--- The numbers of nodes and of messages, by their names.
-use Rattle.std.specs.Prelude.{ℕ, List, bytes_eq, length, position, unwrap_or}
+-- The numbers of nodes, of files and of messages, by their names.
+use Rattle.std.specs.Prelude.{◌==◌, ℕ, List, [], ◌∷◌, ◌++◌, bytes_eq, if◌then◌else◌, length, position, unwrap_or}
 use Rattle.std.specs.Map.{lookup}
 use Rattle.lru.specs.LruCache.{lru_cache, put_entries}
 use Rattle.hlc_log.specs.declared.log_event.LogKind.{LogKind}
@@ -7,9 +7,13 @@ use Rattle.hlc_log.specs.declared.log_event.LogKind.TheVariants as kind
 use Rattle.hlc_log_text.specs.declared.log_word.LogWord.{LogWord}
 use Rattle.hlc_log_text.specs.declared.log_word.LogWord.TheVariants as word
 
--- the number of a node: its place among the names, which a new one takes at their end
-abbrev pub node_number : List (List ℕ) → (name : List ℕ) → ℕ
-node_number nodes name = unwrap_or (position (bytes_eq name) nodes) (length nodes)
+-- the number of a name: its place among the names, which a new one takes at their end
+abbrev pub name_number : (names : List (List ℕ)) → (name : List ℕ) → ℕ
+name_number names name = unwrap_or (position (bytes_eq name) names) (length names)
+
+-- what is kept of each by its number, the last of which may be new
+abbrev pub with_number : {A : Type 0} → (new : A) → List A → (number : ℕ) → List A
+with_number new all number = if number == length all then all ++ new ∷ [] else all
 
 -- messages are the names of the latest ones with their numbers, the one that was mentioned last coming first. The number of a message, which a
 -- new one takes as its own

@@ -26,32 +26,59 @@ use Rattle.hlc_watch.specs.Laws.{told_as}
 use Rattle.hlc_watch.specs.Records.{ruled_by}
 use Rattle.hlc_watch.specs.Watching.{KeptLog, after_event, no_log}
 use Rattle.hlc_watch.specs.declared.records.Records.{Records}
+use Rattle.hlc_watch.specs.declared.file_line.FileLine.{FileLine}
 use Rattle.hlc_watched_log.specs.CauseRows.{cause_rows, is_broken, row_if}
-use Rattle.hlc_watched_log.specs.Numbers.{kind_of, message_number, messages_after, node_number}
+use Rattle.hlc_watched_log.specs.Files.{KeptFiles, line_here, marked_at, moved_to, no_files, told_line}
+use Rattle.hlc_watched_log.specs.Numbers.{kind_of, message_number, messages_after, name_number}
+use Rattle.hlc_watched_log.specs.Skews.{ShownSkews, skew_rows, skews_after}
 use Rattle.hlc_watched_log.specs.Summary.{claimed_ahead, count_rows, no_counts, node_rows, one_more, tallies_after, with_found, with_kind}
+use Rattle.hlc_watched_log.specs.declared.log_names.LogNames.{LogNames}
 use Rattle.hlc_watched_log.specs.declared.node_tally.NodeTally.{NodeTally}
 use Rattle.hlc_watched_log.specs.declared.watch_counts.WatchCounts.{WatchCounts}
 use Rattle.hlc_watched_log.specs.declared.watch_rules.WatchRules.{WatchRules}
 
--- the names of nodes, and what is counted of each; the names of the latest messages, and how many are kept; how many events came; what is kept of
--- them; and what is counted of all
+-- the names of nodes and files, and what is counted of each node; where its lines stand; the names of the latest messages, and how many are kept; how
+-- many events came; what is kept of them; the skews that they show; and what is counted of all
 pub record WatchedLog : Type 0 where
-  pub nodes : List (List ℕ)
+  pub names : LogNames
+  pub files : KeptFiles
   pub tallies : List NodeTally
   pub messages : List (List ℕ × ℕ)
   pub keep : ℕ
   pub events : ℕ
   pub kept : KeptLog
+  pub skews : ShownSkews
   pub counts : WatchCounts
 
 -- nothing came
 abbrev pub no_events : (keep : ℕ) → WatchedLog
-no_events keep = record { nodes = []; tallies = []; messages = []; keep = keep; events = 0; kept = no_log keep; counts = no_counts }
+no_events keep = record {
+  names = record { nodes = []; files = [] };
+  files = no_files;
+  tallies = [];
+  messages = [];
+  keep = keep;
+  events = 0;
+  kept = no_log keep;
+  skews = [];
+  counts = no_counts;
+}
 
--- an event of a node and a message with these names, which a record on a line tells of, by numbers: a message that is new has the number of the event
-abbrev pub event_by : WatchedLog → (line : ℕ) → RecordHead → Extras → (node message : List ℕ) → LogEvent
-event_by log line head extras node message = record {
-  node = record { 0 = node_number log.nodes node };
+-- the next record stands on a line
+abbrev pub on_line : WatchedLog → (line : ℕ) → WatchedLog
+on_line log line = record log { files = moved_to log.files line }
+
+-- a record on a line marks a file of a name: the next lines are its own
+abbrev pub in_file : WatchedLog → (name : List ℕ) → (line : ℕ) → WatchedLog
+in_file log name line = record log {
+  names = record { nodes = log.names.nodes; files = with_name log.names.files name };
+  files = marked_at log.files (name_number log.names.files name + 1) line;
+}
+
+-- an event of a node and a message with these names, which a record tells of, by numbers: a message that is new has the number of the event
+abbrev pub event_by : WatchedLog → RecordHead → Extras → (node message : List ℕ) → LogEvent
+event_by log head extras node message = record {
+  node = record { 0 = name_number log.names.nodes node };
   reading = head.reading;
   has_reading = head.has_reading;
   kind = kind_of head.word (message_number log.messages message log.events);
@@ -59,7 +86,7 @@ event_by log line head extras node message = record {
   has_stamp = head.has_stamp;
   carried = extras.carried;
   seq = extras.seq;
-  line = line;
+  line = (line_here log.files).number;
 }
 
 -- what a record tells of an event but for its head and names
@@ -70,8 +97,8 @@ extras_of named = record { carried = named.carried; seq = named.seq }
 abbrev pub message_of : NamedEvent → List ℕ
 message_of named = unwrap_or named.message []
 
-abbrev pub event_on : WatchedLog → (line : ℕ) → NamedEvent → LogEvent
-event_on log line named = event_by log line named.head (extras_of named) named.node (message_of named)
+abbrev pub event_on : WatchedLog → NamedEvent → LogEvent
+event_on log named = event_by log named.head (extras_of named) named.node (message_of named)
 
 -- the first column of a stamp
 abbrev pub stamp_column : StampForm → LogColumn
@@ -95,7 +122,7 @@ unwatched_by form w has_stamp message node =
 
 abbrev pub unwatched : StampForm → (nodes : List (List ℕ)) → NamedEvent → Option BadLog
 unwatched form nodes named =
-    unwatched_by form named.head.word named.head.has_stamp (message_of named) (node_number nodes named.node)
+    unwatched_by form named.head.word named.head.has_stamp (message_of named) (name_number nodes named.node)
 
 -- why a record is bad, if it is: it says nothing, or tells of such an event
 abbrev pub bad_event : StampForm → (nodes : List (List ℕ)) → Option NamedEvent → Option BadLog
@@ -106,25 +133,26 @@ abbrev pub bad_of : StampForm → (nodes : List (List ℕ)) → Result LogItem B
 bad_of form nodes (Ok item) = bad_event form nodes (if_event item)
 bad_of form nodes (Err why) = Some why
 
--- the row of a record that is bad
+-- the row of a record on a line that is bad
 abbrev pub column_field : Option LogColumn → Fields
 column_field None = []
 column_field (Some column) = column_name column ∷ []
 
-abbrev pub bad_row : (line : ℕ) → BadLog → Fields
-bad_row line why = codes "bad" ∷ decimal line ∷ bad_log_word why ∷ column_field (bad_log_column why)
+abbrev pub bad_row : (files : List (List ℕ)) → FileLine → BadLog → Fields
+bad_row files line why = codes "bad" ∷ told_line files line ∷ bad_log_word why ∷ column_field (bad_log_column why)
 
--- the row of an event that claims to be further ahead than a limit, if there is one
+-- the row of an event on a line that claims to be further ahead than a limit, if there is one
 abbrev pub is_over : (limit ahead : Option ℕ) → Bool
 is_over (Some limit) (Some ahead) = nat_lt limit ahead
 is_over _ _ = false
 
-abbrev pub over_row : (nodes : List (List ℕ)) → LogEvent → Fields
-over_row nodes event = codes "over" ∷ name_of nodes event.node.0 ∷ decimal event.line ∷ decimal (unwrap_or (claimed_ahead event) 0) ∷ []
+abbrev pub over_row : LogNames → FileLine → LogEvent → Fields
+over_row names line event =
+    codes "over" ∷ name_of names.nodes event.node.0 ∷ told_line names.files line ∷ decimal (unwrap_or (claimed_ahead event) 0) ∷ []
 
--- the records that are complete as an event comes
-abbrev pub complete_as : WatchRules → KeptLog → LogEvent → List Records
-complete_as rules kept event = told_as kept (ruled_by rules.records.receives event)
+-- the records that are complete as an event of a file comes
+abbrev pub complete_as : WatchRules → KeptLog → (file : ℕ) → LogEvent → List Records
+complete_as rules kept file event = told_as kept (ruled_by rules.records.receives file event)
 
 -- what is counted, with an event more
 abbrev pub counts_after : WatchRules → WatchCounts → (complete : List Records) → LogEvent → WatchCounts
@@ -134,28 +162,31 @@ counts_after rules before complete event =
 -- what is kept, with an event more, whose node and message have these names
 abbrev pub with_event : WatchRules → WatchedLog → (word : LogWord) → (node message : List ℕ) → LogEvent → WatchedLog
 with_event rules log word node message event = record {
-  nodes = with_name log.nodes node;
-  tallies = tallies_after log.tallies event;
+  names = record { nodes = with_name log.names.nodes node; files = log.names.files };
+  files = log.files;
+  tallies = tallies_after log.tallies (line_here log.files) event;
   messages = messages_after log.keep log.messages word message log.events;
   keep = log.keep;
   events = log.events + 1;
-  kept = after_event log.kept (ruled_by rules.records.receives event);
-  counts = counts_after rules log.counts (complete_as rules log.kept event) event;
+  kept = after_event log.kept (ruled_by rules.records.receives log.files.current event);
+  skews = skews_after log.skews (complete_as rules log.kept log.files.current event);
+  counts = counts_after rules log.counts (complete_as rules log.kept log.files.current event) event;
 }
 
--- so of one that a record on a line tells of
-abbrev pub with_named : WatchRules → WatchedLog → (line : ℕ) → NamedEvent → WatchedLog
-with_named rules log line named = with_event rules log named.head.word named.node (message_of named) (event_on log line named)
+-- so of one that a record tells of
+abbrev pub with_named : WatchRules → WatchedLog → NamedEvent → WatchedLog
+with_named rules log named = with_event rules log named.head.word named.node (message_of named) (event_on log named)
 
--- the rows of an event: the causes of the records that are complete now, and that it is over the limit
-abbrev pub event_rows : WatchRules → (nodes : List (List ℕ)) → (complete : List Records) → LogEvent → List Fields
-event_rows rules nodes complete event =
-    flat_map (cause_rows nodes (greatest_c rules.records.form)) complete ++ row_if (is_over rules.limit (claimed_ahead event)) (over_row nodes event)
+-- the rows of an event on a line: the causes of the records that are complete now, and that it is over the limit
+abbrev pub event_rows : WatchRules → LogNames → (complete : List Records) → FileLine → LogEvent → List Fields
+event_rows rules names complete line event =
+    flat_map (cause_rows names (greatest_c rules.records.form)) complete ++ row_if (is_over rules.limit (claimed_ahead event)) (over_row names line event)
 
--- the rows that sum a log up: its nodes, and what is counted
+-- the rows that sum a log up: its nodes, what is counted, and skews
 abbrev pub summary_rows : WatchedLog → List Fields
 summary_rows log =
-    node_rows log.nodes log.tallies ++ count_rows log.counts (receive_count log.kept.messages.awaited) log.kept.messages.forgotten
+    node_rows log.names log.tallies
+    ++ (count_rows log.counts (receive_count log.kept.messages.awaited) log.kept.messages.forgotten ++ skew_rows log.names log.skews)
 
 -- they are due after every so many events
 abbrev pub is_due : (every : Option ℕ) → (events : ℕ) → Bool
@@ -165,39 +196,39 @@ is_due (Some every) events = if every == 0 then false else events % every == 0
 abbrev pub due_rows : (every : Option ℕ) → WatchedLog → List Fields
 due_rows every log = if is_due every log.events then summary_rows log else []
 
--- what a record on a line is answered with that tells of an event, if it does
-abbrev pub told_rows : WatchRules → WatchedLog → (line : ℕ) → Option NamedEvent → List Fields
-told_rows rules log line None = []
-told_rows rules log line (Some named) =
-    let next = with_named rules log line named in
-    let event = event_on log line named in
-    event_rows rules next.nodes (complete_as rules log.kept event) event ++ due_rows rules.every next
+-- what a record is answered with that tells of an event, if it does
+abbrev pub told_rows : WatchRules → WatchedLog → Option NamedEvent → List Fields
+told_rows rules log None = []
+told_rows rules log (Some named) =
+    let next = with_named rules log named in
+    let event = event_on log named in
+    event_rows rules next.names (complete_as rules log.kept log.files.current event) (line_here log.files) event ++ due_rows rules.every next
 
 -- what one is answered with that is to say this, and is bad for that reason, if it is
-abbrev pub rows_by : WatchRules → WatchedLog → (line : ℕ) → Option BadLog → Option NamedEvent → List Fields
-rows_by rules log line (Some why) event = bad_row line why ∷ []
-rows_by rules log line None event = told_rows rules log line event
+abbrev pub rows_by : WatchRules → WatchedLog → Option BadLog → Option NamedEvent → List Fields
+rows_by rules log (Some why) event = bad_row log.names.files (line_here log.files) why ∷ []
+rows_by rules log None event = told_rows rules log event
 
 -- what is kept after it
 abbrev pub without_bad : WatchedLog → WatchedLog
 without_bad log = record log { counts = record log.counts { left_out = one_more log.counts.left_out } }
 
-abbrev pub with_told : WatchRules → WatchedLog → (line : ℕ) → Option NamedEvent → WatchedLog
-with_told rules log line None = log
-with_told rules log line (Some named) = with_named rules log line named
+abbrev pub with_told : WatchRules → WatchedLog → Option NamedEvent → WatchedLog
+with_told rules log None = log
+with_told rules log (Some named) = with_named rules log named
 
-abbrev pub log_by : WatchRules → WatchedLog → (line : ℕ) → Option BadLog → Option NamedEvent → WatchedLog
-log_by rules log line (Some why) event = without_bad log
-log_by rules log line None event = with_told rules log line event
+abbrev pub log_by : WatchRules → WatchedLog → Option BadLog → Option NamedEvent → WatchedLog
+log_by rules log (Some why) event = without_bad log
+log_by rules log None event = with_told rules log event
 
 -- the event of what a record is to say
 abbrev pub said_event : Result LogItem BadLog → Option NamedEvent
 said_event (Ok item) = if_event item
 said_event (Err why) = None
 
--- what a record on a line is answered with that is to say this, and what is kept then
-abbrev pub rows_at : WatchRules → WatchedLog → (line : ℕ) → Result LogItem BadLog → List Fields
-rows_at rules log line said = rows_by rules log line (bad_of rules.records.form log.nodes said) (said_event said)
+-- what a record is answered with that is to say this, and what is kept then
+abbrev pub rows_at : WatchRules → WatchedLog → Result LogItem BadLog → List Fields
+rows_at rules log said = rows_by rules log (bad_of rules.records.form log.names.nodes said) (said_event said)
 
-abbrev pub log_at : WatchRules → WatchedLog → (line : ℕ) → Result LogItem BadLog → WatchedLog
-log_at rules log line said = log_by rules log line (bad_of rules.records.form log.nodes said) (said_event said)
+abbrev pub log_at : WatchRules → WatchedLog → Result LogItem BadLog → WatchedLog
+log_at rules log said = log_by rules log (bad_of rules.records.form log.names.nodes said) (said_event said)

@@ -1,26 +1,20 @@
 // The rows of what an event breaks.
 
-ghost use Rattle.std.specs.Prelude.{◌≡◌, IsTrue, OnOk};
+ghost use Rattle.std.specs.Prelude.{◌≡◌, ◌∷◌, [], OnOk, codes, decimal};
 ghost use Rattle.hlc_csv.specs.Rows.{AddsRow, AddsRows};
-ghost use Rattle.hlc_log_text.specs.LogText.{name_of};
-ghost use Rattle.hlc_watched_log.specs.CauseRows.{ahead_row, behind_row, breaks_by, carried_row, cause_rows, is_broken, not_above_row, row_if, row_of, rows_of, wrong_line};
+ghost use Rattle.hlc_watched_log.specs.CauseRows.{ahead_row, behind_row, breaks_by, cause_rows, is_broken, line_row, row_if, row_of, rows_of, wrong_line};
 
+use crate::log_names::LogNames;
 use hlc_csv::RowField::{Number, Text};
 use hlc_csv::{OutputFault, RowBuffer};
-use hlc_log_text::NameSet;
-use hlc_stamp::{NodeId, Stamp};
-use hlc_watch::{LineCauses, Records};
+use hlc_log_text::LineText;
+use hlc_stamp::Stamp;
+use hlc_watch::{FileLine, LineCauses, Records};
+use std::alloc::Global;
 use std::io::Write;
 
-// The name of a node, which is empty if no node has this number.
-pub(crate) fn node_name(nodes: &NameSet, node: NodeId) -> &[u8]
-    ensures { result.now ≡ name_of nodes.now node.0 }
-{
-    nodes.name(node.0 as usize).unwrap_or(b"")
-}
-
 // The line of the send of what an event receives, if its message carried another stamp than that claims.
-fn wrong_line(records: &Records) -> Option<u32>
+fn wrong_line(records: &Records) -> Option<FileLine>
     ensures { result ≡ wrong_line records.now }
 {
     match (records.event.carried, records.send) {
@@ -36,7 +30,7 @@ fn wrong_line(records: &Records) -> Option<u32>
 }
 
 // Whether one of these rules is broken that isn't about least stamps.
-fn breaks_by(causes: LineCauses, wrong: Option<u32>) -> bool
+fn breaks_by(causes: LineCauses, wrong: Option<FileLine>) -> bool
     ensures { result ≡ breaks_by causes wrong }
 {
     causes.behind
@@ -54,111 +48,134 @@ pub(crate) fn is_broken(full: u32, records: &Records) -> bool
 
 // Adds the row of a stamp that is behind, if it is.
 fn push_behind<W: Write>(
+    alloc: Global,
     rows: &mut RowBuffer,
-    nodes: &NameSet,
+    names: &LogNames,
     records: &Records,
     behind: bool,
     writer: &mut W,
 ) -> Result<(), OutputFault>
-    ensures { OnOk result (AddsRows W.contents writer.old writer.new rows.old rows.new (row_if behind (behind_row nodes.now records.now))) }
+    ensures { OnOk result (AddsRows W.contents writer.old writer.new rows.old rows.new (row_if behind (behind_row names.now records.now))) }
 {
     if behind {
-        let line = Number(u64::from(records.event.line));
-        let node = Text(node_name(nodes, records.event.node));
-        return rows.push(&[Text(b"cause"), line, node, Text(b"behind")], writer);
+        let line = names.line(alloc, records.event.line)?;
+        let node = Text(names.node(records.event.node));
+        let behind = Text(b"behind");
+        return rows.push(&[Text(b"cause"), line.field(), node, behind], writer);
     }
     Ok(())
 }
 
-// Adds the row of a stamp that isn't above the one that a line claims, if there is such a line.
-fn push_not_above<W: Write>(
+// Adds the row of a rule that is broken by what a line claims, by how these lines are told.
+fn push_line_row<'a, W: Write>(
     rows: &mut RowBuffer,
-    nodes: &NameSet,
-    records: &Records,
-    claimed: Option<u32>,
+    line: &'a LineText,
+    node: &'a [u8],
+    rule: &'a [u8],
+    claim: &'a LineText,
     writer: &mut W,
 ) -> Result<(), OutputFault>
-    ensures { OnOk result (AddsRows W.contents writer.old writer.new rows.old rows.new (row_of (not_above_row nodes.now records.now) claimed)) }
+    ensures { OnOk result (AddsRow W.contents writer.old writer.new rows.old rows.new
+        (codes "cause" ∷ line.now ∷ node.now ∷ rule.now ∷ claim.now ∷ [])) }
+{
+    let (line, claim) = (line.field(), claim.field());
+    rows.push(
+        &[Text(b"cause"), line, Text(node), Text(rule), claim],
+        writer,
+    )
+}
+
+// Adds the row of a rule that is broken by what a line claims, if there is such a line.
+fn push_line<W: Write>(
+    alloc: Global,
+    rows: &mut RowBuffer,
+    names: &LogNames,
+    records: &Records,
+    rule: &[u8],
+    claimed: Option<FileLine>,
+    writer: &mut W,
+) -> Result<(), OutputFault>
+    ensures { OnOk result (AddsRows W.contents writer.old writer.new rows.old rows.new (row_of (line_row names.now records.now rule.now) claimed)) }
 {
     let Some(claim) = claimed else {
         return Ok(());
     };
-    let line = Number(u64::from(records.event.line));
-    let node = Text(node_name(nodes, records.event.node));
-    let claim = Number(u64::from(claim));
-    rows.push(
-        &[Text(b"cause"), line, node, Text(b"not-above"), claim],
+    let line = names.line(alloc, records.event.line)?;
+    let claim = names.line(alloc, claim)?;
+    push_line_row(
+        rows,
+        &line,
+        names.node(records.event.node),
+        rule,
+        &claim,
         writer,
     )
 }
 
-// Adds the row of a stamp that is ahead of this one, if it is.
-fn push_ahead<W: Write>(
+// Adds the row of a stamp that is ahead of this one, by how its line is told.
+fn push_ahead_row<'a, W: Write>(
     rows: &mut RowBuffer,
-    nodes: &NameSet,
-    records: &Records,
-    least: Option<Stamp>,
+    line: &'a LineText,
+    node: &'a [u8],
+    least: Stamp,
     writer: &mut W,
 ) -> Result<(), OutputFault>
-    ensures { OnOk result (AddsRows W.contents writer.old writer.new rows.old rows.new (row_of (ahead_row nodes.now records.now) least)) }
+    ensures { OnOk result (AddsRow W.contents writer.old writer.new rows.old rows.new
+        (codes "cause" ∷ line.now ∷ node.now ∷ codes "ahead" ∷ decimal least.l ∷ decimal least.c ∷ [])) }
 {
-    let Some(least) = least else {
-        return Ok(());
-    };
-    let line = Number(u64::from(records.event.line));
-    let node = Text(node_name(nodes, records.event.node));
+    let (line, node) = (line.field(), Text(node));
     let (l, c) = (Number(least.l), Number(u64::from(least.c)));
     rows.push(&[Text(b"cause"), line, node, Text(b"ahead"), l, c], writer)
 }
 
-// Adds the row of a message that carried another stamp than this line claims for its send, if there is such a line.
-fn push_carried<W: Write>(
+// Adds the row of a stamp that is ahead of this one, if it is.
+fn push_ahead<W: Write>(
+    alloc: Global,
     rows: &mut RowBuffer,
-    nodes: &NameSet,
+    names: &LogNames,
     records: &Records,
-    send: Option<u32>,
+    least: Option<Stamp>,
     writer: &mut W,
 ) -> Result<(), OutputFault>
-    ensures { OnOk result (AddsRows W.contents writer.old writer.new rows.old rows.new (row_of (carried_row nodes.now records.now) send)) }
+    ensures { OnOk result (AddsRows W.contents writer.old writer.new rows.old rows.new (row_of (ahead_row names.now records.now) least)) }
 {
-    let Some(send) = send else {
+    let Some(least) = least else {
         return Ok(());
     };
-    let line = Number(u64::from(records.event.line));
-    let node = Text(node_name(nodes, records.event.node));
-    let send = Number(u64::from(send));
-    rows.push(
-        &[Text(b"cause"), line, node, Text(b"carried"), send],
-        writer,
-    )
+    let line = names.line(alloc, records.event.line)?;
+    push_ahead_row(rows, &line, names.node(records.event.node), least, writer)
 }
 
 // Adds the rows of these rules.
 fn push_rules<W: Write>(
+    alloc: Global,
     rows: &mut RowBuffer,
-    nodes: &NameSet,
+    names: &LogNames,
     records: &Records,
     causes: LineCauses,
     writer: &mut W,
 ) -> Result<(), OutputFault>
-    ensures { OnOk result (AddsRows W.contents writer.old writer.new rows.old rows.new (rows_of nodes.now records.now causes)) }
+    ensures { OnOk result (AddsRows W.contents writer.old writer.new rows.old rows.new (rows_of names.now records.now causes)) }
 {
-    push_behind(rows, nodes, records, causes.behind, writer)?;
-    push_not_above(rows, nodes, records, causes.not_above_previous, writer)?;
-    push_not_above(rows, nodes, records, causes.not_above_send, writer)?;
-    push_ahead(rows, nodes, records, causes.ahead, writer)?;
-    push_carried(rows, nodes, records, wrong_line(records), writer)
+    let (previous, send) = (causes.not_above_previous, causes.not_above_send);
+    push_behind(alloc, rows, names, records, causes.behind, writer)?;
+    push_line(alloc, rows, names, records, b"not-above", previous, writer)?;
+    push_line(alloc, rows, names, records, b"not-above", send, writer)?;
+    push_ahead(alloc, rows, names, records, causes.ahead, writer)?;
+    let wrong = wrong_line(records);
+    push_line(alloc, rows, names, records, b"carried", wrong, writer)
 }
 
 // Adds the rows of an event: one for each rule that it breaks, and one if its message carried another stamp than its send.
 pub(crate) fn push_causes<W: Write>(
+    alloc: Global,
     rows: &mut RowBuffer,
-    nodes: &NameSet,
+    names: &LogNames,
     records: &Records,
     full: u32,
     writer: &mut W,
 ) -> Result<(), OutputFault>
-    ensures { OnOk result (AddsRows W.contents writer.old writer.new rows.old rows.new (cause_rows nodes.now full records.now)) }
+    ensures { OnOk result (AddsRows W.contents writer.old writer.new rows.old rows.new (cause_rows names.now full records.now)) }
 {
-    push_rules(rows, nodes, records, records.causes(full), writer)
+    push_rules(alloc, rows, names, records, records.causes(full), writer)
 }

@@ -11,14 +11,15 @@ ghost use Rattle.hlc_watched_log.specs.Summary.{claimed_ahead};
 ghost use Rattle.hlc_watched_log.specs.Taken.{complete_in};
 ghost use Rattle.hlc_watched_log.specs.Watched.{bad_row, event_rows, is_over, over_row};
 
-use crate::cause_row::{node_name, push_causes};
+use crate::cause_row::push_causes;
+use crate::log_names::LogNames;
 use crate::node_tally::claimed_ahead;
 use crate::watch_rules::WatchRules;
 use hlc_csv::RowField::{Number, Text};
 use hlc_csv::{OutputFault, RowBuffer};
 use hlc_log::LogEvent;
-use hlc_log_text::{BadLog, NameSet};
-use hlc_watch::{Complete, Records};
+use hlc_log_text::BadLog;
+use hlc_watch::{Complete, FileLine, Records};
 use std::alloc::Global;
 use std::io::Write;
 
@@ -34,107 +35,118 @@ pub(crate) fn is_over(limit: Option<u64>, ahead: Option<u64>) -> bool
 
 // Adds the rows of each of some events.
 fn push_each<W: Write>(
+    alloc: Global,
     rows: &mut RowBuffer,
-    nodes: &NameSet,
+    names: &LogNames,
     full: u32,
     complete: &[Records],
     writer: &mut W,
 ) -> Result<(), OutputFault>
-    ensures { OnOk result (AddsRows W.contents writer.old writer.new rows.old rows.new (flat_map (cause_rows nodes.now full) complete.now)) }
+    ensures { OnOk result (AddsRows W.contents writer.old writer.new rows.old rows.new (flat_map (cause_rows names.now full) complete.now)) }
 {
     for records in complete {
-        push_causes(rows, nodes, records, full, writer)?;
+        push_causes(alloc, rows, names, records, full, writer)?;
     }
     Ok(())
 }
 
 // Adds the rows of an event, if there is one.
 fn push_first<W: Write>(
+    alloc: Global,
     rows: &mut RowBuffer,
-    nodes: &NameSet,
+    names: &LogNames,
     full: u32,
     event: Option<Records>,
     writer: &mut W,
 ) -> Result<(), OutputFault>
-    ensures { OnOk result (AddsRows W.contents writer.old writer.new rows.old rows.new (flat_map (cause_rows nodes.now full) (if_any event))) }
+    ensures { OnOk result (AddsRows W.contents writer.old writer.new rows.old rows.new (flat_map (cause_rows names.now full) (if_any event))) }
 {
     match event {
-        Some(records) => push_causes(rows, nodes, &records, full, writer),
+        Some(records) => push_causes(alloc, rows, names, &records, full, writer),
         None => Ok(()),
     }
 }
 
 // Adds the row of an event that is over a limit, if it is.
 fn push_over<W: Write>(
+    alloc: Global,
     rows: &mut RowBuffer,
-    nodes: &NameSet,
+    names: &LogNames,
     limit: Option<u64>,
+    line: FileLine,
     event: &LogEvent,
     writer: &mut W,
 ) -> Result<(), OutputFault>
     ensures { OnOk result (AddsRows W.contents writer.old writer.new rows.old rows.new
-        (row_if (is_over limit (claimed_ahead event.now)) (over_row nodes.now event.now))) }
+        (row_if (is_over limit (claimed_ahead event.now)) (over_row names.now line event.now))) }
 {
     let ahead = claimed_ahead(event);
     if !is_over(limit, ahead) {
         return Ok(());
     }
-    let node = Text(node_name(nodes, event.node));
-    let line = Number(u64::from(event.line));
+    let line = names.line(alloc, line)?;
+    let node = Text(names.node(event.node));
     let ahead = Number(ahead.unwrap_or(0));
-    rows.push(&[Text(b"over"), node, line, ahead], writer)
+    rows.push(&[Text(b"over"), node, line.field(), ahead], writer)
 }
 
 // Adds the rows of the events that are complete with an event, and that it is over the limit.
 fn push_event<W: Write>(
+    alloc: Global,
     rows: &mut RowBuffer,
-    nodes: &NameSet,
+    names: &LogNames,
     rules: WatchRules,
     complete: &Complete,
+    line: FileLine,
     event: &LogEvent,
     writer: &mut W,
 ) -> Result<(), OutputFault>
-    ensures { OnOk result (AddsRows W.contents writer.old writer.new rows.old rows.new (event_rows rules nodes.now (complete_in complete.now) event.now)) }
+    ensures { OnOk result (AddsRows W.contents writer.old writer.new rows.old rows.new (event_rows rules names.now (complete_in complete.now) line event.now)) }
 {
     let full = rules.records.form.full();
-    push_first(rows, nodes, full, complete.event, writer)?;
-    push_each(rows, nodes, full, &complete.waited, writer)?;
-    push_over(rows, nodes, rules.limit, event, writer)
+    push_first(alloc, rows, names, full, complete.event, writer)?;
+    push_each(alloc, rows, names, full, &complete.waited, writer)?;
+    push_over(alloc, rows, names, rules.limit, line, event, writer)
 }
 
 // Writes them, and flushes the writer.
 pub(crate) fn write_event<W: Write>(
     alloc: Global,
-    nodes: &NameSet,
+    names: &LogNames,
     rules: WatchRules,
     complete: &Complete,
+    line: FileLine,
     event: &LogEvent,
     writer: &mut W,
 ) -> Result<(), OutputFault>
     ensures { OnOk result (Appends (W.contents writer.old) (W.contents writer.new)
-        (text_of (event_rows rules nodes.now (complete_in complete.now) event.now))) }
+        (text_of (event_rows rules names.now (complete_in complete.now) line event.now))) }
 {
     let mut rows = RowBuffer::new(alloc);
-    push_event(&mut rows, nodes, rules, complete, event, writer)?;
+    push_event(
+        alloc, &mut rows, names, rules, complete, line, event, writer,
+    )?;
     rows.finish(writer)
 }
 
 // Adds the row of a record that is bad.
 fn push_bad<W: Write>(
+    alloc: Global,
     rows: &mut RowBuffer,
-    line: u32,
+    names: &LogNames,
+    line: FileLine,
     why: BadLog,
     writer: &mut W,
 ) -> Result<(), OutputFault>
-    ensures { OnOk result (AddsRows W.contents writer.old writer.new rows.old rows.new (bad_row line why ∷ [])) }
+    ensures { OnOk result (AddsRows W.contents writer.old writer.new rows.old rows.new (bad_row names.now.files line why ∷ [])) }
 {
-    let line = Number(u64::from(line));
+    let line = names.line(alloc, line)?;
     let (word, why_word) = (Text(b"bad"), Text(why.word()));
     match why.column() {
-        None => rows.push(&[word, line, why_word], writer),
+        None => rows.push(&[word, line.field(), why_word], writer),
         Some(column) => {
             let column = Text(column.name().as_bytes());
-            rows.push(&[word, line, why_word, column], writer)
+            rows.push(&[word, line.field(), why_word, column], writer)
         }
     }
 }
@@ -142,13 +154,14 @@ fn push_bad<W: Write>(
 // Writes it, and flushes the writer.
 pub(crate) fn write_bad<W: Write>(
     alloc: Global,
-    line: u32,
+    names: &LogNames,
+    line: FileLine,
     why: BadLog,
     writer: &mut W,
 ) -> Result<(), OutputFault>
-    ensures { OnOk result (Appends (W.contents writer.old) (W.contents writer.new) (text_of (bad_row line why ∷ []))) }
+    ensures { OnOk result (Appends (W.contents writer.old) (W.contents writer.new) (text_of (bad_row names.now.files line why ∷ []))) }
 {
     let mut rows = RowBuffer::new(alloc);
-    push_bad(&mut rows, line, why, writer)?;
+    push_bad(alloc, &mut rows, names, line, why, writer)?;
     rows.finish(writer)
 }

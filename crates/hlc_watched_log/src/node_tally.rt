@@ -4,13 +4,14 @@ ghost use Rattle.std.specs.Prelude.{◌≡◌};
 ghost use Rattle.hlc_watched_log.specs.Summary.{claimed_ahead, further, furthest_with, no_tally, one_more, with_event};
 
 use hlc_log::LogEvent;
+use hlc_watch::FileLine;
 
 // A claimed `l` that is above its reading.
 #[derive(Clone, Copy)]
 pub(crate) struct FarClaim {
     // By how much.
     pub(crate) ahead: u64,
-    pub(crate) line: u32,
+    pub(crate) line: FileLine,
 }
 
 // How many events a node has, or the greatest number, if there are more; and the first of the claims that are furthest above their readings.
@@ -49,7 +50,7 @@ fn further(furthest: Option<FarClaim>, claim: FarClaim) -> FarClaim
 }
 
 // The furthest claim, once an event on a line claims to be so far ahead.
-fn furthest_with(furthest: Option<FarClaim>, line: u32, ahead: Option<u64>) -> Option<FarClaim>
+fn furthest_with(furthest: Option<FarClaim>, line: FileLine, ahead: Option<u64>) -> Option<FarClaim>
     ensures { result ≡ furthest_with furthest line ahead }
 {
     match ahead {
@@ -69,13 +70,13 @@ impl NodeTally {
         }
     }
 
-    // With an event more.
-    pub(crate) fn with_event(self, event: &LogEvent) -> NodeTally
-        ensures { result ≡ with_event self event.now }
+    // With an event more, on a line.
+    pub(crate) fn with_event(self, line: FileLine, event: &LogEvent) -> NodeTally
+        ensures { result ≡ with_event self line event.now }
     {
         NodeTally {
             events: one_more(self.events),
-            furthest: furthest_with(self.furthest, event.line, claimed_ahead(event)),
+            furthest: furthest_with(self.furthest, line, claimed_ahead(event)),
         }
     }
 }

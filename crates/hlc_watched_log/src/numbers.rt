@@ -1,8 +1,8 @@
-// The numbers of nodes and messages, by their names.
+// The numbers of nodes, files and messages, by their names.
 
 ghost use Rattle.std.specs.Prelude.{◌≡◌, ◌<◌, [], IfOk, OnOk};
 ghost use Rattle.lru.specs.LruCache.{lru_cache};
-ghost use Rattle.hlc_watched_log.specs.Numbers.{kind_of, message_number, messages_after, node_number, with_message};
+ghost use Rattle.hlc_watched_log.specs.Numbers.{kind_of, message_number, messages_after, name_number, with_message};
 
 use hlc_log::{LogKind, MessageId};
 use hlc_log_text::{LogWord, NameKey, NameSet};
@@ -28,11 +28,11 @@ pub(crate) fn no_messages(
     Ok(messages)
 }
 
-// The number of a node, which a new one takes at the end of the names.
-pub(crate) fn node_number(nodes: &NameSet, name: &[u8]) -> usize
-    ensures { result ≡ node_number nodes.now name.now }
+// The number of a name, which a new one takes at their end.
+pub(crate) fn name_number(names: &NameSet, name: &[u8]) -> usize
+    ensures { result ≡ name_number names.now name.now }
 {
-    nodes.number(name).unwrap_or(nodes.len())
+    names.number(name).unwrap_or(names.len())
 }
 
 // The number of a message: its own if it is new.

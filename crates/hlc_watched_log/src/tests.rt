@@ -22,6 +22,8 @@ messages,2,2
 waiting,0
 forgotten,0
 left-out,0
+skew,a,b,5,1,2
+skew,a,c,8,5,4
 ";
 
 #[test]

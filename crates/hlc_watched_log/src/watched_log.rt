@@ -7,15 +7,18 @@ ghost use Rattle.hlc_csv.specs.Rows.{text_of};
 ghost use Rattle.hlc_log.specs.declared.log_event.TheConstants.{MAX_LOG_NODES};
 ghost use Rattle.hlc_log_text.specs.Names.{with_name};
 ghost use Rattle.hlc_watched_log.specs.CauseRows.{is_broken};
-ghost use Rattle.hlc_watched_log.specs.Numbers.{node_number};
+ghost use Rattle.hlc_watched_log.specs.Numbers.{name_number};
 ghost use Rattle.hlc_watched_log.specs.Summary.{with_node};
 ghost use Rattle.hlc_watched_log.specs.Taken.{complete_in};
 
 use crate::cause_row::is_broken;
 use crate::event_rows::{is_over, write_bad, write_event};
+use crate::file_lines::FileLines;
+use crate::log_names::LogNames;
 use crate::named_event::{message_name, unwatched};
 use crate::node_tally::{NodeTally, claimed_ahead, one_more};
-use crate::numbers::{MessageNames, no_messages, node_number, number_kind};
+use crate::numbers::{MessageNames, name_number, no_messages, number_kind};
+use crate::skews::{ShownSkews, take_skews};
 use crate::summary::write_summary;
 use crate::watch_counts::WatchCounts;
 use crate::watch_rules::WatchRules;
@@ -26,17 +29,21 @@ use hlc_log_text::{BadLog, Extras, NODE_PLACE, NameKey, NameSet, RecordHead, Rec
 use hlc_stamp::NodeId;
 use hlc_watch::{Complete, Records, RuledEvent, Watch};
 use std::alloc::{AllocError, Global};
+use std::collections::BTreeMap;
 use std::io::Write;
 use std::marker::Model;
 
-// The names of nodes, what is counted of each, the names of the latest messages, how many events came, and what is kept of these.
+// The names of nodes and files, where the lines of these stand, what is counted of each node, the names of the latest messages, how many events came,
+// what is kept of these, and the skews that they show.
 #[derive(Drop)]
 pub(crate) struct LogWatch {
-    nodes: NameSet,
+    names: LogNames,
+    files: FileLines,
     tallies: Vec<NodeTally>,
     messages: MessageNames,
     events: u32,
     watch: Watch,
+    skews: ShownSkews,
     counts: WatchCounts,
     alloc: Global,
 }
@@ -47,12 +54,14 @@ impl Model for LogWatch {
     ghost Value = { WatchedLog };
 
     ghost view = { λ w. record {
-      nodes = w.nodes;
+      names = w.names;
+      files = w.files;
       tallies = w.tallies.items;
       messages = w.messages.entries;
       keep = w.messages.cap;
       events = w.events;
       kept = w.watch;
+      skews = w.skews.entries;
       counts = w.counts;
     } };
 }
@@ -64,7 +73,7 @@ fn add_node(
     name: &[u8],
     number: usize,
 ) -> Result<(), AllocError>
-    requires number { number ≡ node_number nodes.old name.now }
+    requires number { number ≡ name_number nodes.old name.now }
     requires one_each { length tallies.old.items ≡ length nodes.old }
     ensures names { OnOk result (nodes.new ≡ with_name nodes.old name.now) }
     ensures tallies { OnOk result (tallies.new.items ≡ with_node tallies.old.items number) }
@@ -96,12 +105,14 @@ fn are_any_broken(full: u32, all: &[Records]) -> bool
 }
 
 impl LogWatch {
-    ghost use Rattle.std.specs.Prelude.{◌≡◌, ◌^◌, ◌+◌, ◌-◌, ◌<◌, ◌≤◌, IfOk, Ok, OnOk};
+    ghost use Rattle.std.specs.Prelude.{◌≡◌, ◌^◌, ◌+◌, ◌-◌, ◌<◌, ◌≤◌, ◌∷◌, [], IfOk, Ok, OnOk, length};
     ghost use Rattle.csv.specs.Records.{fields_of};
     ghost use Rattle.hlc_log.specs.Events.{IsSmallCarried};
     ghost use Rattle.hlc_log_text.specs.LogHeader.{HasSmallCarried, IsSmallTold};
     ghost use Rattle.hlc_watched_log.specs.Taken.{IsWhole, Takes, TakesEvent, TakesItem};
-    ghost use Rattle.hlc_watched_log.specs.Watched.{complete_as, due_rows, event_by, no_events, summary_rows, with_event, without_bad};
+    ghost use Rattle.hlc_watched_log.specs.Files.{line_here};
+    ghost use Rattle.hlc_watched_log.specs.Numbers.{name_number};
+    ghost use Rattle.hlc_watched_log.specs.Watched.{bad_row, complete_as, due_rows, event_by, in_file, no_events, on_line, summary_rows, with_event, without_bad};
 
     // Nothing came.
     pub(crate) fn new(
@@ -112,15 +123,52 @@ impl LogWatch {
         ensures nothing { IfOk result (λ log. log ≡ no_events rules.keep) }
         ensures whole { IfOk result IsWhole }
     {
+        let files = FileLines::new(alloc)?;
+        let messages = no_messages(alloc, rules.keep, key)?;
+        let watch = Watch::new(alloc, rules.keep)?;
         Ok(LogWatch {
-            nodes: NameSet::new(alloc, key),
+            names: LogNames {
+                nodes: NameSet::new(alloc, key),
+                files: NameSet::new(alloc, key),
+            },
+            files,
             tallies: Vec::new(alloc),
-            messages: no_messages(alloc, rules.keep, key)?,
+            messages,
             events: 0,
-            watch: Watch::new(alloc, rules.keep)?,
+            watch,
+            skews: BTreeMap::new(alloc),
             counts: WatchCounts::new(),
             alloc,
         })
+    }
+
+    // The number of the file that is read.
+    pub(crate) fn file(&self) -> u32
+        ensures file { result ≡ self.now.files.current }
+        ensures within { result < length self.now.files.counted }
+    {
+        self.files.current()
+    }
+
+    // The next record stands on a line of the input.
+    pub(crate) fn move_to(&mut self, line: u32)
+        ensures { self.new ≡ on_line self.old line }
+    {
+        self.files.move_to(line);
+    }
+
+    // A mark on a line begins a file of a name, or goes on with it. Answers the number of the file.
+    pub(crate) fn begin_file(&mut self, name: &[u8], line: u32) -> Result<u32, AllocError>
+        requires whole { IsWhole self.old }
+        requires few { length self.old.files.counted < 2 ^ 32 - 1 }
+        ensures file { IfOk result (λ file. file ≡ name_number self.old.names.files name.now + 1) }
+        ensures begun { OnOk result (self.new ≡ in_file self.old name.now line) }
+        ensures whole { OnOk result (IsWhole self.new) }
+    {
+        let file = name_number(&self.names.files, name) as u32 + 1;
+        self.names.files.mention(name)?;
+        self.files.begin(file, line)?;
+        Ok(file)
     }
 
     // How many events came.
@@ -144,8 +192,9 @@ impl LogWatch {
     {
         write_summary(
             self.alloc,
-            &self.nodes,
+            &self.names,
             &self.tallies,
+            &self.skews,
             self.counts,
             self.watch.waiting(),
             self.watch.forgotten(),
@@ -174,19 +223,19 @@ impl LogWatch {
         node: &[u8],
         number: usize,
         message: &[u8],
-        line: u32,
     ) -> Result<(LogEvent, Complete), AllocError>
-        requires number { number ≡ node_number self.old.nodes node.now }
+        requires number { number ≡ name_number self.old.names.nodes node.now }
         requires few { number < MAX_LOG_NODES }
         requires whole { IsWhole self.old }
         requires room { self.old.events < 2 ^ 32 - 1 }
         requires small { IsSmallCarried extras.carried }
-        ensures event { IfOk result (λ told. told.0 ≡ event_by self.old line head extras node.now message.now) }
-        ensures complete { IfOk result (λ told. complete_in told.1 ≡ complete_as rules self.old.kept told.0) }
+        ensures event { IfOk result (λ told. told.0 ≡ event_by self.old head extras node.now message.now) }
+        ensures complete { IfOk result (λ told. complete_in told.1 ≡ complete_as rules self.old.kept self.old.files.current told.0) }
         ensures kept { IfOk result (λ told. self.new ≡ with_event rules self.old head.word node.now message.now told.0) }
         ensures whole { OnOk result (IsWhole self.new) }
     {
-        add_node(&mut self.nodes, &mut self.tallies, node, number)?;
+        let line = self.files.line_here();
+        add_node(&mut self.names.nodes, &mut self.tallies, node, number)?;
         let kind = number_kind(
             self.alloc,
             &mut self.messages,
@@ -203,12 +252,13 @@ impl LogWatch {
             has_stamp: head.has_stamp,
             carried: extras.carried,
             seq: extras.seq,
-            line,
+            line: line.number,
         };
         self.events += 1;
-        self.tallies[number] = self.tallies[number].with_event(&event);
-        let ruled = RuledEvent::new(rules.records.receives, &event);
+        self.tallies[number] = self.tallies[number].with_event(line, &event);
+        let ruled = RuledEvent::new(rules.records.receives, line.file, &event);
         let complete = self.watch.event(ruled)?;
+        take_skews(&mut self.skews, &complete)?;
         let broken = is_any_broken(rules.records.form.full(), &complete);
         let over_limit = is_over(rules.limit, claimed_ahead(&event));
         self.counts = self.counts.with_event(event.kind, broken, over_limit);
@@ -222,20 +272,19 @@ impl LogWatch {
         head: RecordHead,
         extras: Extras,
         placed: &ByteRecord,
-        line: u32,
         writer: &mut W,
     ) -> Result<Option<BadLog>, OutputFault>
         requires whole { IsWhole self.old }
         requires room { self.old.events < 2 ^ 32 - 1 }
         requires small { IsSmallCarried extras.carried }
-        ensures taken { IfOk result (TakesEvent rules head extras (fields_of placed.now) self.old line
+        ensures taken { IfOk result (TakesEvent rules head extras (fields_of placed.now) self.old
             (W.contents writer.old) (W.contents writer.new) self.new) }
         ensures whole { OnOk result (IsWhole self.new) }
         ensures counted { OnOk result (self.new.events ≤ self.old.events + 1) }
     {
         let node = field(placed, NODE_PLACE);
         let message = message_name(rules.records.form, head.word, placed);
-        let number = node_number(&self.nodes, node);
+        let number = name_number(&self.names.nodes, node);
         if let Some(why) = unwatched(
             rules.records.form,
             head.word,
@@ -245,31 +294,39 @@ impl LogWatch {
         ) {
             return Ok(Some(why));
         }
-        let (event, complete) = self.add(rules, head, extras, node, number, message, line)?;
-        write_event(self.alloc, &self.nodes, rules, &complete, &event, writer)?;
+        let (event, complete) = self.add(rules, head, extras, node, number, message)?;
+        let line = self.files.line_here();
+        write_event(
+            self.alloc,
+            &self.names,
+            rules,
+            &complete,
+            line,
+            &event,
+            writer,
+        )?;
         self.sum_up_if_due(rules.every, writer)?;
         Ok(None)
     }
 
-    // Takes what a record on a line says, or tells why it is bad.
+    // Takes what a record says, or tells why it is bad.
     fn take_item<W: Write>(
         &mut self,
         rules: WatchRules,
         item: RecordItem,
         placed: &ByteRecord,
-        line: u32,
         writer: &mut W,
     ) -> Result<Option<BadLog>, OutputFault>
         requires whole { IsWhole self.old }
         requires room { self.old.events < 2 ^ 32 - 1 }
         requires small { IsSmallTold item }
-        ensures taken { IfOk result (TakesItem rules (Ok item) (fields_of placed.now) self.old line (W.contents writer.old) (W.contents writer.new) self.new) }
+        ensures taken { IfOk result (TakesItem rules (Ok item) (fields_of placed.now) self.old (W.contents writer.old) (W.contents writer.new) self.new) }
         ensures whole { OnOk result (IsWhole self.new) }
         ensures counted { OnOk result (self.new.events ≤ self.old.events + 1) }
     {
         match item {
             RecordItem::Event(head, extras) => {
-                self.take_event(rules, head, extras, placed, line, writer)
+                self.take_event(rules, head, extras, placed, writer)
             }
             RecordItem::Other => Ok(None),
         }
@@ -281,20 +338,27 @@ impl LogWatch {
         rules: WatchRules,
         told: Result<RecordItem, BadLog>,
         placed: &ByteRecord,
-        line: u32,
         writer: &mut W,
     ) -> Result<Option<BadLog>, OutputFault>
         requires whole { IsWhole self.old }
         requires room { self.old.events < 2 ^ 32 - 1 }
         requires small { HasSmallCarried told }
-        ensures taken { IfOk result (TakesItem rules told (fields_of placed.now) self.old line (W.contents writer.old) (W.contents writer.new) self.new) }
+        ensures taken { IfOk result (TakesItem rules told (fields_of placed.now) self.old (W.contents writer.old) (W.contents writer.new) self.new) }
         ensures whole { OnOk result (IsWhole self.new) }
         ensures counted { OnOk result (self.new.events ≤ self.old.events + 1) }
     {
         match told {
-            Ok(item) => self.take_item(rules, item, placed, line, writer),
+            Ok(item) => self.take_item(rules, item, placed, writer),
             Err(why) => Ok(Some(why)),
         }
+    }
+
+    // Writes the row of a record that is bad.
+    pub(crate) fn write_bad<W: Write>(&self, why: BadLog, writer: &mut W) -> Result<(), OutputFault>
+        ensures { OnOk result (Appends (W.contents writer.old) (W.contents writer.new)
+            (text_of (bad_row self.now.names.files (line_here self.now.files) why ∷ []))) }
+    {
+        write_bad(self.alloc, &self.names, self.files.line_here(), why, writer)
     }
 
     // Counts a record that is bad.
@@ -304,26 +368,25 @@ impl LogWatch {
         self.counts.left_out = one_more(self.counts.left_out);
     }
 
-    // Takes what a record on a line was read as, and answers it. If it is bad and isn't left out, that ends the watch.
+    // Takes what a record was read as, and answers it. If it is bad and isn't left out, that ends the watch.
     pub(crate) fn take<W: Write>(
         &mut self,
         rules: WatchRules,
         told: Result<RecordItem, BadLog>,
         placed: &ByteRecord,
-        line: u32,
         writer: &mut W,
     ) -> Result<Option<BadLog>, OutputFault>
         requires whole { IsWhole self.old }
         requires room { self.old.events < 2 ^ 32 - 1 }
         requires small { HasSmallCarried told }
-        ensures taken { IfOk result (Takes rules told (fields_of placed.now) self.old line (W.contents writer.old) (W.contents writer.new) self.new) }
+        ensures taken { IfOk result (Takes rules told (fields_of placed.now) self.old (W.contents writer.old) (W.contents writer.new) self.new) }
         ensures whole { OnOk result (IsWhole self.new) }
         ensures counted { OnOk result (self.new.events ≤ self.old.events + 1) }
     {
-        let Some(why) = self.take_told(rules, told, placed, line, writer)? else {
+        let Some(why) = self.take_told(rules, told, placed, writer)? else {
             return Ok(None);
         };
-        write_bad(self.alloc, line, why, writer)?;
+        self.write_bad(why, writer)?;
         self.count_bad();
         if rules.records.faults.leaves_out(why) {
             Ok(None)

@@ -1,21 +1,27 @@
 // A log that is watched to its end.
 
-ghost use Rattle.std.specs.Prelude.{◌≡◌, IfOk, List, Option, [], ℕ};
+ghost use Rattle.std.specs.Prelude.{◌≡◌, ◌+◌, ◌-◌, ◌^◌, ◌<◌, ◌≤◌, ◌∷◌, IfOk, List, OnOk, Option, [], ℕ, length, option_map};
 ghost use Rattle.csv.specs.Records.{fields_of};
 ghost use Rattle.hlc_csv.specs.RecordReader.{HasReadTo, ReadsRecord};
+ghost use Rattle.hlc_log_text.specs.FileMarks.{begun_file};
+ghost use Rattle.hlc_log_text.specs.LogHeader.{HasSmallCarried};
+ghost use Rattle.hlc_log_text.specs.LogItem.{LogItem};
+ghost use Rattle.hlc_watched_log.specs.Answered.{Answers, AreHeadersAfter, ReadsNext};
+ghost use Rattle.hlc_watched_log.specs.Numbers.{with_number};
 ghost use Rattle.hlc_watched_log.specs.Taken.{IsWhole};
 ghost use Rattle.hlc_watched_log.specs.Watched.{no_events};
 ghost use Rattle.hlc_watched_log.specs.Watching.{IsWatched, ended_with, read_rules};
 
-use crate::event_rows::write_bad;
 use crate::outcome::WatchOutcome;
 use crate::watch_rules::WatchRules;
 use crate::watched_log::LogWatch;
 use csv::ByteRecord;
-use hlc_csv::{FoundRecord, LAST_LINE, RecordFault, RecordReader, RecordsFault};
+use hlc_csv::{
+    FoundRecord, LAST_LINE, OutputFault, RecordFault, RecordReader, RecordsFault, field,
+};
 use hlc_log::Resent;
-use hlc_log_text::{BadLog, LogHeader, LogRules, NameKey};
-use std::alloc::Global;
+use hlc_log_text::{BadLog, LogHeader, LogRules, NameKey, RecordItem, file_name};
+use std::alloc::{AllocError, Global};
 use std::io::{Read, Write};
 
 // How records are read: a message that is sent again is the one that was sent last.
@@ -71,10 +77,93 @@ fn next_record<R: Read + Drop>(
     }
 }
 
+// The name of the file that a record marks, if it marks one.
+fn begun_file(fields: &ByteRecord) -> Option<&[u8]>
+    ensures { option_map (λ name. name.now) result ≡ begun_file (fields_of fields.now) }
+{
+    if fields.len() == 1 {
+        file_name(field(fields, 0))
+    } else {
+        None
+    }
+}
+
+// What has to be kept of the files so that their next records can be read: nothing was read of the first.
+fn first_headers(alloc: Global) -> Result<Vec<LogHeader>, AllocError>
+    ensures headers { IfOk result (λ headers. AreHeadersAfter ([] ∷ []) headers.items) }
+    ensures one { IfOk result (λ headers. length headers.items ≡ 1) }
+{
+    let mut headers = Vec::new(alloc);
+    headers.push(LogHeader::new())?;
+    Ok(headers)
+}
+
+// Adds that of a file of this number, if it is new.
+fn add_header(headers: &mut Vec<LogHeader>, file: usize) -> Result<(), AllocError>
+    ensures { OnOk result ((items : List (List LogItem)) → AreHeadersAfter items headers.old.items
+        → AreHeadersAfter (with_number [] items file) headers.new.items) }
+{
+    if file == headers.len() {
+        headers.push(LogHeader::new())?;
+    }
+    Ok(())
+}
+
+// Reads the next record of a file by itself, or tells why it is bad.
+fn read_told(
+    alloc: Global,
+    headers: &mut Vec<LogHeader>,
+    file: usize,
+    rules: LogRules,
+    fields: &mut ByteRecord,
+    placed: &mut ByteRecord,
+) -> Result<Result<RecordItem, BadLog>, AllocError>
+    requires { file < length headers.old.items }
+    ensures said { IfOk result (ReadsNext (read_rules rules) headers.old.items file (fields_of fields.old) (fields_of placed.new) headers.new.items) }
+    ensures small { IfOk result HasSmallCarried }
+{
+    let mut header = headers[file];
+    let told = header.read(alloc, read_rules(rules), fields, placed)?;
+    headers[file] = header;
+    Ok(told)
+}
+
+// Takes the next record, on a line, and answers it: it marks a file, or is the next of its file. If it is bad and isn't left out, that ends the watch.
+fn take_next<W: Write>(
+    alloc: Global,
+    headers: &mut Vec<LogHeader>,
+    fields: &mut ByteRecord,
+    placed: &mut ByteRecord,
+    log: &mut LogWatch,
+    rules: WatchRules,
+    line: u32,
+    writer: &mut W,
+) -> Result<Option<BadLog>, OutputFault>
+    requires whole { IsWhole log.old }
+    requires headers { length headers.old.items ≡ length log.old.files.counted }
+    requires room { log.old.events < 2 ^ 32 - 1 }
+    requires few { length log.old.files.counted < 2 ^ 32 - 1 }
+    ensures answers { IfOk result (Answers rules headers.old.items log.old (fields_of fields.old, line) (W.contents writer.old) (W.contents writer.new)
+        headers.new.items log.new) }
+    ensures whole { OnOk result (IsWhole log.new) }
+    ensures counted { OnOk result (log.new.events ≤ log.old.events + 1) }
+{
+    if let Some(name) = begun_file(fields) {
+        let file = log.begin_file(name, line)?;
+        add_header(headers, file as usize)?;
+        return Ok(None);
+    }
+    log.move_to(line);
+    let file = log.file() as usize;
+    let told = read_told(alloc, headers, file, rules.records, fields, placed)?;
+    log.take(rules, told, placed, writer)
+}
+
 // Watches the records of a log to its end. What comes of it holds of the bytes which the reader began with.
 fn watch_records<R: Read + Drop, W: Write>(
     alloc: Global,
     input: &mut RecordReader<R>,
+    headers: &mut Vec<LogHeader>,
     fields: &mut ByteRecord,
     placed: &mut ByteRecord,
     log: &mut LogWatch,
@@ -83,21 +172,24 @@ fn watch_records<R: Read + Drop, W: Write>(
 ) -> Result<WatchOutcome, RecordsFault>
     requires nothing { log.old ≡ no_events rules.keep }
     requires whole { IsWhole log.old }
+    requires headers { AreHeadersAfter ([] ∷ []) headers.old.items }
+    requires one { length headers.old.items ≡ 1 }
     ensures { IfOk result (λ outcome. (bytes : Option (List ℕ)) → HasReadTo R.remaining input.old bytes [] []
         → IsWatched rules bytes (W.contents writer.old) (W.contents writer.new) outcome) }
 {
-    let mut header = LogHeader::new();
     for _count in 0..LAST_LINE {
         let Some(found) = next_record(input, fields)? else {
             log.sum_up(writer)?;
             return Ok(ended_with(log));
         };
         if found.is_open {
-            write_bad(alloc, found.line, BadLog::Quote, writer)?;
+            log.move_to(found.line);
+            log.write_bad(BadLog::Quote, writer)?;
             return Ok(WatchOutcome::BadLog);
         }
-        let told = header.read(alloc, read_rules(rules.records), fields, placed)?;
-        let ends = log.take(rules, told, placed, found.line, writer)?;
+        let ends = take_next(
+            alloc, headers, fields, placed, log, rules, found.line, writer,
+        )?;
         if ends.is_some() {
             return Ok(WatchOutcome::BadLog);
         }
@@ -121,11 +213,13 @@ pub fn watch_log<R: Read + Drop, W: Write>(
 {
     let mut input = record_reader(alloc, reader)?;
     let mut log = LogWatch::new(alloc, rules, key)?;
+    let mut headers = first_headers(alloc)?;
     let mut fields = ByteRecord::new(alloc);
     let mut placed = ByteRecord::new(alloc);
     watch_records(
         alloc,
         &mut input,
+        &mut headers,
         &mut fields,
         &mut placed,
         &mut log,

@@ -15,9 +15,28 @@ function forget() {
   [hits, hitLines, sought] = [[], new Set(), undefined];
   resetFilters();
   endCompare();
-  for (const id of ['report-part', 'picture-part', 'answers-part', 'conclusion']) at(id).hidden = true;
-  for (const id of ['tables', 'picture', 'answers', 'faults', 'told', 'pointed', 'line', 'found', 'conclusion', 'filtered']) at(id).replaceChildren();
+  for (const id of ['report-part', 'words-part', 'picture-part', 'answers-part', 'conclusion', 'hint', 'narrowed']) at(id).hidden = true;
+  for (const id of ['tables', 'words', 'picture', 'answers', 'faults', 'told', 'pointed', 'line', 'found', 'conclusion', 'filtered']) at(id).replaceChildren();
   showHere();
+}
+
+// Leaves what was answered before, greyed, until the next answer: to another text, or to one that begins as it does.
+function fade(text = '', from = 0) {
+  told.stale = { text, from };
+  at('main').classList.add('outdated');
+  showHere();
+}
+
+// Leaves what was answered to a text that is gone, without what was looked for in it.
+function leave() {
+  if (!told.lines) return forget();
+  chosen = [];
+  [hits, hitLines, sought] = [[], new Set(), undefined];
+  resetFilters();
+  endCompare();
+  for (const id of ['found', 'filtered', 'told']) at(id).replaceChildren();
+  at('unfilter').hidden = true;
+  fade();
 }
 
 // The event of a line, as its dot is named: by its number, or of a log by the line itself.
@@ -31,13 +50,22 @@ const eventAt = line => {
 // The line on which the record of an event begins.
 const lineOfEvent = event => (kind() === 'log' ? event - 1 : told.eventLines?.[event]);
 
+// The program's own words for a log that it answered.
+async function wordsFor(it, { answers }, stage) {
+  if (!answers.length) return {};
+  stage('putting it in words');
+  const { status, words } = await send('tell', it);
+  return { words, wordsStatus: status };
+}
+
 async function answer(first = '') {
   const it = optionsOrSay();
   if (!it) return;
   const began = performance.now(), content = now();
   const found = await during(async stage => {
     await sendText();
-    return send('work', it, stage);
+    const worked = await send('work', it, stage);
+    return it.kind === 'log' ? { ...worked, ...(await wordsFor(it, worked, stage)) } : worked;
   });
   if (!found) return;
   if (now() !== content) return say('The text has changed since: answer again.');
@@ -57,7 +85,6 @@ async function answer(first = '') {
   conclude(it);
   if (moreAbout() !== '') await redraw();
   if (chosen.length) await writeChain();
-  if (it.kind === 'log') await writeSentences(told.tables.get('cause') ?? []);
 }
 
 function showAnswers(it) {
@@ -67,7 +94,9 @@ function showAnswers(it) {
   told.notes = undefined;
   at('faults').replaceChildren();
   at('report-part').hidden = it.kind !== 'log';
-  if (it.kind === 'log') showReport(it);
+  at('tables').replaceChildren();
+  if (it.kind === 'log') showReport();
+  showWords(it);
   if (it.kind === 'trace') noteBadTrace();
   if (it.kind === 'script' && told.status === 0 && told.groups.length !== told.lines.length + 1) told.notes = new Map();
   if (it.kind === 'script' && told.refused.length) showFaults(`${counted(told.refused.length)} refused: lines`, told.refused);

@@ -19,7 +19,7 @@ const WORDS = {
   1: 'hlc: no such event', 2: 'Stamps in this log are broken: with --strict the status is 3.', 3: 'hlc: bad log', 5: 'hlc: bad settings',
   6: 'hlc: too many records', 7: 'hlc: out of memory', 8: 'hlc: over the limit',
 };
-const NO_EVENT = 1, BROKEN = 2, OVER_LIMIT = 8;
+const NO_EVENT = 1, BROKEN = 2, BAD_LOG = 3;
 
 // The one region that a screen reader speaks of by itself.
 const announce = text => { at('live').textContent = text; };

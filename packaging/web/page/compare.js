@@ -7,6 +7,7 @@ let other;
 async function compareWith(name, changes) {
   const it = optionsOrSay();
   if (!it || !told.lines) return;
+  if (told.stale) return answer();
   const began = performance.now();
   const asked = { ...it, from: '', to: '', around: '', explain: '', only: false, ...changes }, isSameText = !changes.bytes;
   const found = await during(async stage => {

@@ -1,15 +1,16 @@
 // A text as bytes: where its lines begin, and which files it was put together of.
 
-// Where lines begin: each after a line feed.
+// Where lines begin: each after a line feed, or after a carriage return without one.
 function lineStartsOf(bytes) {
   let starts = new Uint32Array(1024), length = 1;
-  for (let feed = bytes.indexOf(10); feed >= 0; feed = bytes.indexOf(10, feed + 1)) {
+  for (let at = 0; at < bytes.length; at++) {
+    if (bytes[at] !== 10 && (bytes[at] !== 13 || bytes[at + 1] === 10)) continue;
     if (length === starts.length) {
       const wider = new Uint32Array(2 * length);
       wider.set(starts);
       starts = wider;
     }
-    starts[length++] = feed + 1;
+    starts[length++] = at + 1;
   }
   return starts.slice(0, length);
 }

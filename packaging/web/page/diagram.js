@@ -19,7 +19,7 @@ class Diagram {
   constructor(svg) {
     const [, , width, height] = boxOf(svg);
     Object.assign(this, { svg, width, height, lanes: [], rows: [], rowAt: new Map() });
-    for (const name of svg.querySelectorAll(':scope > text.n')) this.lanes.push({ name: name.textContent, x: Number(name.getAttribute('x')) });
+    for (const name of svg.querySelectorAll(':scope > text.n')) this.lanes.push({ name: name.querySelector('title').textContent, x: Number(name.getAttribute('x')) });
     this.apart = this.lanes.length > 1 ? this.lanes[1].x - this.lanes[0].x : 0;
     this.column = Number(svg.querySelectorAll(':scope > .h')[1]?.getAttribute('x') ?? 0);
     for (const dot of svg.querySelectorAll(':scope > g[id]')) this.addRow(dot);
@@ -83,9 +83,16 @@ class Diagram {
     const [x, y] = numbersOf(element, 'x', 'y');
     if (style === 'h') return to => (y === 22 || setAll(element, { x: x - to.left }), true);
     if (style === 'n') return to => to.x.has(this.laneAt(x)) && (setAll(element, { x: to.x.get(this.laneAt(x)) }), true);
+    if (style === 'y') return this.placingOfTimes(element, x, y);
     const isNumber = style === 'f', row = this.rowAt.get(isNumber ? y + 3 : y);
     if (isNumber) return to => to.y.has(row) && (setAll(element, { x: to.across(x), y: to.y.get(row) - 3 }), true);
     return to => to.y.has(row) && !to.folded.has(row) && (setAll(element, { x: x - to.left, y: to.y.get(row) }), true);
+  }
+
+  // How often the message failed to arrive whose cross comes before.
+  placingOfTimes(element, x, y) {
+    const [[, from]] = pointsOf(element.previousElementSibling), row = this.rowAt.get(from);
+    return to => to.y.has(row) && to.across(x) !== undefined && (setAll(element, { x: to.across(x), y: to.down(y - 4) + 4 }), true);
   }
 
   placingOfBand(element) {

@@ -130,10 +130,15 @@ function outdate() {
   const old = told.stale?.text ?? told.text, text = at('text').value;
   let same = 0;
   while (same < old.length && old[same] === text[same]) same++;
-  told.stale = { text: old, from: old.slice(0, same).split('\n').length - 1 };
-  at('main').classList.add('outdated');
   at('said').textContent = 'The text has changed since it was answered: Ctrl+Enter answers.';
-  showHere();
+  fade(old, old.slice(0, same).split('\n').length - 1);
+}
+
+// So does an option that is changed.
+function outdateOptions() {
+  if (!told.lines || told.stale) return;
+  at('said').textContent = 'The options have changed since it was answered: Ctrl+Enter answers.';
+  fade(told.text, Infinity);
 }
 
 function listenToText() {
@@ -144,13 +149,10 @@ function listenToText() {
   text.addEventListener('click', () => sayHere(true));
   at('kept').addEventListener('keydown', moveCursor);
   for (const id of ['text', 'kept']) at(id).addEventListener('keydown', event => {
-    if (!(event.ctrlKey || event.metaKey)) return;
     // (what was typed since is undone by the browser first)
-    const undone = event.key === 'z' && !event.shiftKey && past.length && (kept || text.value === lastPut);
-    if (event.key !== 'Enter' && !undone) return;
+    if (!(event.ctrlKey || event.metaKey) || event.key !== 'z' || event.shiftKey || !past.length || !(kept || text.value === lastPut)) return;
     event.preventDefault();
-    if (undone) undo();
-    else answer();
+    undo();
   });
   text.addEventListener('paste', event => {
     const whole = text.selectionStart === 0 && text.selectionEnd === text.value.length, letters = event.clipboardData.getData('text');

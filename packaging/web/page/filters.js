@@ -4,7 +4,7 @@ const MOST_ROWS = 2000, FEWEST_FOLDED = 2;
 // The picture that is shown, the nodes that are hidden, by the names of their lanes, and the first events of what was unfolded.
 let diagram, hiddenNodes = new Set(), unfolded = new Set();
 
-const FILTERS = { shown: 'all', of: '', node: '', 'clock-from': '', 'clock-to': '', folds: false };
+const FILTERS = { shown: 'all', of: '', node: '', group: '', 'clock-from': '', 'clock-to': '', folds: false };
 const filterValues = () => Object.fromEntries(Object.entries(FILTERS).map(([id, usual]) => [id, usual === false ? at(id).checked : at(id).value.trim()]));
 const isFiltered = () => { const it = filterValues(); return hiddenNodes.size > 0 || it.folds || it.shown !== 'all' || it['clock-from'] !== '' || it['clock-to'] !== ''; };
 
@@ -19,7 +19,7 @@ function resetFilters() {
 
 // The filters that count, as parts of an address, and from one.
 function filtersInto(parts) {
-  const it = filterValues(), named = { node: ['node'], of: ['message', 'past', 'future'] };
+  const it = filterValues(), named = { node: ['node'], group: ['group'], of: ['message', 'past', 'future'] };
   for (const [id, usual] of Object.entries(FILTERS)) if (it[id] !== usual && (named[id] ?? [it.shown]).includes(it.shown)) parts.set(id, it[id] === true ? '1' : it[id]);
   for (const name of hiddenNodes) parts.append('hide', name);
 }
@@ -27,7 +27,7 @@ function filtersInto(parts) {
 function takeFilters(parts) {
   for (const [id, usual] of Object.entries(FILTERS)) {
     if (usual === false) at(id).checked = parts.get(id) === '1';
-    else if (id === 'node') at(id).dataset.asked = parts.get(id) ?? '';
+    else if (id === 'node' || id === 'group') at(id).dataset.asked = parts.get(id) ?? '';
     else at(id).value = (id === 'shown' && !Object.hasOwn(CHOICES, parts.get(id) ?? '') ? undefined : parts.get(id)) ?? usual;
   }
   hiddenNodes = new Set(parts.getAll('hide'));
@@ -76,6 +76,7 @@ const CHOICES = {
   past: (rows, { sentBy }) => reached(diagram.rowOf(eventAsked()), row => present([row.before, sentBy.get(row)])),
   future: (rows, { after }) => reached(diagram.rowOf(eventAsked()), row => present([after.get(row), ...row.sends])),
   causes: rows => new Set(rows.filter(row => row.isCause)),
+  group: rowsOfGroup,
 };
 
 function isWithin(row, least, most) {
@@ -103,6 +104,7 @@ function folded(rows, areFolded) {
 function applyFilters() {
   if (!diagram?.rows.length) return;
   showNodes();
+  showGroups();
   const it = filterValues();
   for (const name of ['clock-from', 'clock-to']) if (!/^\d{0,20}$/.test(it[name])) refuse(name, 'a whole number.');
   const chosenRows = CHOICES[it.shown](diagram.rows, neighbours(diagram.rows));
@@ -111,6 +113,7 @@ function applyFilters() {
   const lanes = diagram.lanes.filter(lane => (isFiltered() && it.shown !== 'all' ? shown.some(({ row }) => row.lane === lane) : !hiddenNodes.has(lane.name)));
   if (isFiltered() || !diagram.isWhole) diagram.lay(shown, lanes);
   const left = diagram.count > diagram.rows.length ? `, of ${counted(diagram.count)} in all` : '', cut = items.length > shown.length ? `; the first ${several(shown.length, 'row')} of ${counted(items.length)}` : '';
+  at('unfilter').hidden = !isFiltered();
   at('filtered').textContent = isFiltered() ? `${counted(rows.length)} of the ${several(diagram.rows.length, 'event')} that are drawn${left}${cut}` : '';
   if (diagram.svg.isConnected) freshen();
 }
@@ -163,15 +166,17 @@ async function filter() {
 function tryFilters() {
   try {
     applyFilters();
+    if (kind() === 'log' && areCausesTold()) narrowCauses();
   } catch (fault) {
     if (!(fault instanceof RangeError)) throw fault;
     say(fault.message);
   }
 }
 
-function unfilter() {
+async function unfilter() {
   resetFilters();
-  return filter();
+  await filter();
+  at('filters').querySelector('summary').focus({ preventScroll: true });
 }
 
 function unfold(event) {

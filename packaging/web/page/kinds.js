@@ -12,8 +12,7 @@ function kindOfRecord([word, ...fields]) {
     if (areNumbers) return 'trace';
     return fields.slice(0, 3).every(isNumber) && Number(fields[2]) < 64 ? 'script' : 'log';
   }
-  // (lines of JSON are those of a log too, which the page can't read)
-  const isOfLogs = ['kind', 'restart', 'send'].includes(word) || word.startsWith('{') || (['local', 'receive'].includes(word) && !areNumbers);
+  const isOfLogs = ['kind', 'restart', 'send'].includes(word) || (['local', 'receive'].includes(word) && !areNumbers);
   return isOfLogs || markedName(csvRow([word, ...fields]).slice(0, -1)) !== undefined ? 'log' : undefined;
 }
 
@@ -25,8 +24,35 @@ function stampsIn(records) {
   return local && (local.length === 4 || !isNumber(local[4])) ? 'packed' : 'pair';
 }
 
+// The first lines that are neither blank nor marks of files.
+const firstLines = () => decode(now().bytes.subarray(0, MOST_READ)).replace('\ufeff', '').split('\n').filter(line => line.trim() && markedName(line) === undefined);
+
+// Whether the first one of them begins as an object does.
+const isOfJson = () => /^\s*\{/.test(firstLines()[0]);
+
+// What a line says, if it is an object.
+function objectIn(line) {
+  try {
+    return Object(JSON.parse(line));
+  } catch {
+    return {};
+  }
+}
+
+// Where texts and numbers stand in an object, each by its path.
+const pathsIn = (value, path = '') => Object.entries(value).flatMap(([key, inner]) => (inner && typeof inner === 'object' && !Array.isArray(inner) ? pathsIn(inner, `${path}.${key}`) : [`${path}.${key}`]));
+
+// Takes a log as lines of JSON, and says at which keys its first lines have something.
+function takeLines() {
+  const objects = firstLines().slice(0, 200).map(objectIn);
+  at('kind').value = 'log';
+  setOptions({ jsonl: true, stamps: objects.some(({ stamp }) => /^\d+$/.test(stamp)) ? 'packed' : 'pair' });
+  at('paths').textContent = `Here there are ${[...new Set(objects.flatMap(it => pathsIn(it)))].slice(0, 60).join(' ')}`;
+}
+
 // Takes the text as what most of its first records tell, with the options as at the beginning.
 function takeKind() {
+  if (isOfJson()) return takeLines();
   const records = rowsOf(`${decode(now().bytes.subarray(0, MOST_READ)).replace('\ufeff', '')}\n`);
   const counts = { script: 0, trace: 0, log: records.some(([word]) => word === 'local') ? 0.5 : 0 };
   for (const fields of records) {

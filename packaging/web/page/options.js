@@ -9,8 +9,11 @@ const NUMBERS = {
 const VIEW = ['explain', 'from', 'to', 'around'], EVENTS = { script: [0n, 16777216n, true], log: [1n, 4294967294n, true] };
 const DEFAULTS = {
   nodes: '3', capacity: '1024', limit: '', tolerance: '', bits: '12', stamps: 'pair', receives: 'tick', unsent: false, report: false,
+  jsonl: false, fields: '', kinds: '', 'reading-unit': '', 'l-unit': '', resent: '', bad: '', groups: false,
   explain: '', from: '', to: '', around: '', only: false,
 };
+// Those that stand together where a log is read otherwise than at the beginning.
+const READING = ['tolerance', 'receives', 'unsent', 'reading-unit', 'l-unit', 'resent', 'bad', 'groups'];
 const isSwitch = id => typeof DEFAULTS[id] === 'boolean';
 
 // What the controls show, and what they are to show: what isn't given is as at the beginning.
@@ -23,10 +26,11 @@ function setOptions(values) {
     else at(id).value = value;
     at(id).removeAttribute('aria-invalid');
   }
+  if (READING.some(id => (isSwitch(id) ? at(id).checked : at(id).value !== DEFAULTS[id]))) at('reading').open = true;
   showOptions();
 }
 
-const nameOfControl = id => at(id).labels[0].textContent.trim();
+const nameOfControl = id => at(id).labels[0].firstChild.textContent.trim();
 
 function refuse(id, why) {
   at(id).setAttribute('aria-invalid', 'true');
@@ -40,6 +44,23 @@ function number(id) {
   at(id).setAttribute('aria-invalid', String(!right));
   if (!right) refuse(id, `a whole number from ${least} to ${most}.`);
   return value;
+}
+
+// The texts of an option that may be given more than once, one a line.
+function textsOf(id, form, like) {
+  const texts = at(id).value.split('\n').map(text => text.trim()).filter(text => text);
+  const wrong = texts.find(text => !form.test(text));
+  at(id).setAttribute('aria-invalid', String(wrong !== undefined));
+  if (wrong !== undefined) refuse(id, `${wrong} isn't of the form ${like}.`);
+  return texts;
+}
+
+// How lines of JSON are read.
+const FIELD = /^(?:kind|(?:(?:local|send|receive|restart)\.)?(?:node|reading|l|c|stamp|message|from|carried|carried_l|carried_c|seq|label))=(?:\.[^.]+)+$/, KIND = /^(?:local|send|receive|restart)=[^,]+(?:,[^,]+)*$/;
+
+function jsonOptions() {
+  if (!at('jsonl').checked) return { jsonl: false };
+  return { jsonl: true, fields: textsOf('fields', FIELD, 'NAME=.PATH, as l=.hlc.l or receive.message=.rpc'), kinds: textsOf('kinds', KIND, 'WORD=VALUE,VALUE, as send=posted') };
 }
 
 // The event that is named, of a log by its line counted over all files.
@@ -63,6 +84,9 @@ function options() {
   if (kind() === 'log') {
     const form = at('stamps').value;
     Object.assign(it, { form: form === 'packed' ? Number(number('bits')) : form === 'dotted' ? 33 : 0, tolerance: number('tolerance'), receives: at('receives').value, unsent: at('unsent').checked, report: at('report').checked });
+    for (const name of ['reading-unit', 'l-unit', 'resent', 'bad']) it[name] = at(name).value;
+    if (!it['reading-unit'] !== !it['l-unit']) refuse(it['l-unit'] ? 'reading-unit' : 'l-unit', 'one unit needs the other.');
+    Object.assign(it, jsonOptions(), { groups: at('groups').checked });
   }
   return it;
 }
@@ -79,6 +103,7 @@ function optionsOrSay() {
 function showOptions() {
   for (const part of document.querySelectorAll('.for')) part.hidden = !part.classList.contains(kind());
   at('bits-label').hidden = at('stamps').value !== 'packed';
+  at('of-json').hidden = kind() !== 'log' || !at('jsonl').checked;
   at('chain-of').textContent = `Chain of ${KINDS[kind()].event}`;
 }
 

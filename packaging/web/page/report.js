@@ -4,14 +4,19 @@
 const REPORT = {
   bad: ['No log', ['line', 'why', 'field'], [0]],
   count: ['Verdicts', ['verdict', 'stamps'], []],
-  cause: ['Where the clock rule was broken', ['line', 'node', 'how', 'than', '', 'in words'], [0]],
+  cause: ['Where the clock rule was broken', ['line', 'node', 'how', 'than', '', 'in the words of the report'], [0]],
   node: ['Nodes', ['node', 'events', 'ahead', 'line', 'origin'], [3, 4]],
   messages: ['Messages', ['sent', 'received', 'repeated', 'open'], []],
   skew: ['Skews between clocks', ['from', 'to', 'ahead', 'send', 'receive'], [3, 4]],
   unsent: ['Unsent messages', ['taken as local'], []],
+  resent: ['Messages sent again', ['sends'], []],
   outside: ['Receives from outside', ['events'], []],
   unread: ['Events without a reading', ['events'], []],
   unstamped: ['Receives without a stamp', ['events'], []],
+  units: ['Units', ['readings', 'L'], []],
+  skipped: ['Lines that tell of no event', ['lines', 'the first'], [1]],
+  'left-out': ['Records left out', ['why', 'records', 'the first'], [2]],
+  group: ['Causes in groups', ['causes', 'node, and how', 'the first', ''], [4]],
   over: ['Claims over the limit', ['node', 'events', 'line', 'ahead', 'origin'], [2, 4]],
   chain: ['Chains', ['line', 'l', 'c', 'chain'], [0, 3]],
   check: ['Checks', ['line', 'chain?'], [0]],
@@ -20,10 +25,14 @@ const REPORT = {
   drift: ['Drifts', ['node', 'ahead', 'line', 'origin'], [2, 3]],
   claimed: ['Claimed stamps', ['line', 'l', 'c', 'way'], [0, 3]],
   event: ['Events', ['line', 'node', 'reading', 'l', 'c', 'least l', 'least c', 'verdict', 'label'], [0]],
+  path: ['Paths', ['line', 'line', 'path'], [0, 1, 2]],
+  tainted: ['Tainted', ['line', 'lines'], [0, 1]],
+  first: ['First to break a rule', ['node', 'how', 'line'], [2]],
   refused: ['Refused questions', ['why'], []],
 };
 // Those whose last field goes on as a list, and those that answer questions.
-const LISTS = ['chain', 'influenced', 'claimed'], REPLIES = ['chain', 'check', 'relation', 'influenced', 'drift', 'claimed', 'event', 'refused'];
+const LISTS = ['chain', 'influenced', 'claimed', 'path', 'tainted'];
+const REPLIES = ['chain', 'check', 'relation', 'influenced', 'drift', 'claimed', 'event', 'path', 'tainted', 'first', 'refused'];
 
 // Whether a field is a line: one that the table says, or what a cause isn't above, or whose message it carried.
 function isLine(word, place, fields) {
@@ -49,6 +58,7 @@ function listCell(word, fields, first) {
 }
 
 function rowOf(word, fields) {
+  if (word === 'group') return groupRow(fields);
   const row = document.createElement('tr'), heads = REPORT[word][1];
   const single = LISTS.includes(word) ? heads.length - 1 : fields.length;
   for (let place = 0; place < single; place++) {
@@ -58,7 +68,7 @@ function rowOf(word, fields) {
   }
   if (single < fields.length) row.append(listCell(word, fields, single));
   while (row.cells.length < heads.length) row.insertCell();
-  if (word === 'cause') row.lastChild.textContent = told.sentences?.get(fields) ?? '';
+  if (word === 'cause') row.lastChild.textContent = told.causeWords.get(`${lineInText(fields[0])}\n${fields[2]}`) ?? '';
   return row;
 }
 
@@ -81,7 +91,8 @@ function addNote(line, row) {
 function showReport() {
   const tables = new Map(), replies = [];
   told.notes = new Map();
-  for (const [word, ...fields] of rowsOf(decode(told.answers))) {
+  // (groups are there whether the answers have them or not)
+  for (const [word, ...fields] of [...rowsOf(told.causeGroups), ...rowsOf(decode(told.answers)).filter(([word]) => word !== 'group')]) {
     if (!Object.hasOwn(REPORT, word)) continue;
     if (!tables.has(word)) tables.set(word, []);
     tables.get(word).push(fields);
@@ -93,6 +104,10 @@ function showReport() {
   if (replies.length === told.questions.length) told.questions.forEach((line, place) => addNote(line, replies[place]));
   // (of a log without events only its messages are counted)
   told.isEmpty = tables.size === 1 && tables.has('messages');
-  at('tables').replaceChildren(...[...tables].map(([word, rows]) => tableOf(word, rows)));
   told.tables = tables;
+  told.groupWords = wordsOfGroups(told.words ?? '', groupsTold());
+  told.causeWords = wordsOfCauses(groupsTold(), told.groupWords);
+  const words = [...new Set(['group', 'cause', ...tables.keys()])].filter(word => tables.has(word));
+  at('tables').replaceChildren(...words.map(word => tableOf(word, tables.get(word))));
+  at('narrowed').hidden = true;
 }

@@ -7,13 +7,14 @@ function markHits() {
 }
 
 async function find() {
-  const words = at('search').value, content = now();
+  const words = at('search').value, content = now(), it = optionsOrSay();
+  if (!it) return;
   if (sought?.words !== words || sought.content !== content) {
     sought = { words, content };
     hit = -1;
     hits = (await during(async () => {
       await sendText();
-      return send('search', words);
+      return send('search', { ...it, words });
     }))?.lines ?? [];
     hitLines = new Set(hits);
     markHits();

@@ -13,12 +13,20 @@ function viewWords(it) {
   return (it.explain === '' ? '' : word('explain', shown('explain'))) + part;
 }
 
+// The words that say how a log is read.
+function readingWords(it) {
+  const option = (name, value) => (value ? ` --${name} ${value}` : ''), many = (name, texts = []) => texts.map(text => ` --${name} ${quoted(text)}`).join('');
+  const form = it.form === 33 ? ' --dotted' : option('packed', it.form), receives = it.receives === 'tick' ? '' : it.receives;
+  const lines = it.jsonl ? ` --jsonl${many('field', it.fields)}${many('kind', it.kinds)}` : '', units = option('reading-unit', it['reading-unit']) + option('l-unit', it['l-unit']);
+  return `${form}${option('tolerance', it.tolerance)}${option('receives', receives)}${it.unsent ? ' --unsent local' : ''}${lines}${units}${option('resent', it.resent)}${it.bad ? ` --${it.bad}` : ''}`;
+}
+
 function commandLines(it) {
   if (it.kind === 'trace') return ['hlc judge'];
   const option = name => (it[name] === '' ? '' : ` --${name} ${it[name]}`);
   if (it.kind === 'log') {
-    const reading = (it.form === 33 ? ' --dotted' : it.form ? ` --packed ${it.form}` : '') + option('tolerance') + (it.receives === 'tick' ? '' : option('receives')) + (it.unsent ? ' --unsent local' : '');
-    return [`hlc audit${reading}${option('limit')}${told.status === BROKEN ? ' --strict' : ''}${it.report ? ' --report' : ''}`, `hlc draw-log${reading}${viewWords(it)}`];
+    const reading = readingWords(it);
+    return [`hlc audit${reading}${option('limit')}${told.status === BROKEN ? ' --strict' : ''}${it.report ? ' --report' : ''}${it.groups ? ' --groups' : ''}`, `hlc draw-log${reading}${viewWords(it)}`];
   }
   const settings = ` --nodes ${it.nodes} --capacity ${it.capacity}${option('limit')}`;
   return [`hlc run${settings}`, `hlc draw${settings}${viewWords(it)}`];
@@ -31,7 +39,7 @@ function commandText(it) {
   const { bytes } = now(), lines = commandLines(it), names = filesNow().map(file => quoted(file.name));
   if (isOfFiles()) return lines.map(line => `tail -n +1 ${names.join(' ')} | ${line}\n`).join('');
   if (kept || (ownName && !isChanged) || bytes.length > MOST_TYPED) return lines.map(line => `${line} < ${quoted(fileName())}\n`).join('');
-  return `printf %s ${quoted(decode(bytes))} > ${KINDS[it.kind].text}\n${lines.map(line => `${line} < ${KINDS[it.kind].text}\n`).join('')}`;
+  return `printf %s ${quoted(decode(bytes))} > ${usualName()}\n${lines.map(line => `${line} < ${usualName()}\n`).join('')}`;
 }
 
 const showLine = it => { at('line').textContent = commandText(it); };
@@ -46,7 +54,9 @@ function fragmentOf(it) {
     parts.set('stamps', at('stamps').value);
     if (it.form && it.form !== 33) parts.set('bits', it.form);
     if (it.receives !== 'tick') parts.set('receives', it.receives);
-    for (const name of ['unsent', 'report']) if (it[name]) parts.set(name, '1');
+    for (const name of ['unsent', 'report', 'jsonl', 'groups']) if (it[name]) parts.set(name, '1');
+    for (const name of ['reading-unit', 'l-unit', 'resent', 'bad']) if (it[name]) parts.set(name, it[name]);
+    for (const name of ['fields', 'kinds']) if (it[name]?.length) parts.set(name, it[name].join('\n'));
   }
   if (it.kind !== 'trace') filtersInto(parts);
   return parts;
@@ -67,16 +77,27 @@ const saveVectors = () => (kind() === 'log' ? saveEvents('vectors', 'log.vectors
 
 let ownFragment = '';
 
-// Keeps the options in the address, and never the text: a link with the text has to be asked for.
-function keepInAddress(it) {
-  const parts = fragmentOf(it);
-  if (exampleName) parts.set('example', exampleName);
+function putInAddress(parts) {
   ownFragment = `#${parts}`;
   try {
     history.replaceState(null, '', ownFragment);
   } catch {
     location.replace(ownFragment);
   }
+}
+
+// Keeps the options in the address, and never the text: a link with the text has to be asked for.
+function keepInAddress(it) {
+  const parts = fragmentOf(it);
+  if (exampleName) parts.set('example', exampleName);
+  putInAddress(parts);
+}
+
+// A text that came in the address doesn't stay there, whether it is answered or not.
+function forgetText(parts) {
+  const rest = new URLSearchParams(parts);
+  rest.delete('text');
+  if (parts.has('text')) putInAddress(rest);
 }
 
 // Takes a case from the address.
@@ -89,11 +110,11 @@ function takeFromAddress() {
   }
   const example = examples.find(it => it.name === parts.get('example'));
   const text = parts.get('text') ?? example?.text ?? '';
+  forgetText(parts);
   replaceText(encode(text));
   at('kind').value = parts.get('kind');
   const given = Object.fromEntries([...parts].filter(([name]) => Object.hasOwn(DEFAULTS, name)));
-  if (!['pair', 'packed', 'dotted'].includes(given.stamps)) delete given.stamps;
-  if (!['merge', 'merge-clock'].includes(given.receives)) delete given.receives;
+  for (const [id, value] of Object.entries(given)) if (at(id).options && ![...at(id).options].some(option => option.value === value)) delete given[id];
   setOptions(given);
   takeFilters(parts);
   if (!parts.has('text') && example) exampleName = example.name;
@@ -102,14 +123,15 @@ function takeFromAddress() {
   return true;
 }
 
-async function copy(text, what) {
+// Copies a text, or shows and selects it where it can't be copied.
+async function copy(text, what, box = 'line') {
   const copied = said => { at('copied').textContent = said; announce(said); };
   try {
     await navigator.clipboard.writeText(text);
     copied(`${what} was copied.`);
   } catch {
-    at('line').textContent = text;
-    getSelection().selectAllChildren(at('line'));
+    if (box === 'line') at('line').textContent = text;
+    getSelection().selectAllChildren(at(box));
     copied(`${what} stands below, selected: copy it from there.`);
   }
 }

@@ -7,12 +7,18 @@ function listen() {
   at('kind').addEventListener('change', () => {
     for (const name of VIEW) at(name).value = '';
     showOptions();
-    forget();
+    leave();
   });
-  at('stamps').addEventListener('change', showOptions);
+  for (const id of Object.keys(DEFAULTS).filter(name => ![...VIEW, 'only'].includes(name))) for (const name of ['input', 'change']) at(id).addEventListener(name, outdateOptions);
+  for (const id of ['stamps', 'jsonl']) at(id).addEventListener('change', showOptions);
   for (const [id, act] of [['answer', () => answer()], ['stop', stop], ['storm', writeStorm], ['draw', redraw], ['find', find], ['undo', undo]]) at(id).addEventListener('click', act);
+  addEventListener('keydown', event => {
+    if (event.key !== 'Enter' || !(event.ctrlKey || event.metaKey) || isStepping() || at('answer').disabled) return;
+    event.preventDefault();
+    answer();
+  });
   for (const id of ['search', ...VIEW, 'nodes', 'capacity', 'limit', 'tolerance', 'bits'])
-    at(id).addEventListener('keydown', event => { if (event.key === 'Enter') (id === 'search' ? find : VIEW.includes(id) ? redraw : answer)(); });
+    at(id).addEventListener('keydown', event => { if (event.key === 'Enter' && !event.ctrlKey && !event.metaKey) (id === 'search' ? find : VIEW.includes(id) ? redraw : answer)(); });
   // (rows about an event stand in the place of those from one to another)
   at('around').addEventListener('input', () => { at('from').value = at('to').value = ''; });
   for (const id of ['from', 'to']) at(id).addEventListener('input', () => { at('around').value = ''; });
@@ -28,6 +34,7 @@ function listen() {
   listenToText();
   listenToPicture();
   listenToFilters();
+  listenToWords();
   listenToSteps();
   listenToCompare();
   addEventListener('hashchange', takeFromAddress);
@@ -55,8 +62,15 @@ function listenToFiles() {
 // A module of nothing but a memory of 64 bits.
 const hasMemory64 = () => typeof WebAssembly === 'object' && WebAssembly.validate(Uint8Array.of(0, 97, 115, 109, 1, 0, 0, 0, 5, 3, 1, 4, 0));
 
+// The bytes of letters: of each five four bytes, as digits of 85, of which `#` is 0; `x` stands for `<`. The last ones may be fewer.
+function bytesOfLetters(letters) {
+  const view = new DataView(new ArrayBuffer(Math.ceil(letters.length / 5) * 4)), digit = code => (code === 120 ? 25 : code - 35);
+  for (let at = 0; at < letters.length; at += 5) view.setUint32((at / 5) * 4, [0, 1, 2, 3, 4].reduce((sum, place) => sum * 85 + (at + place < letters.length ? digit(letters.charCodeAt(at + place)) : 84), 0));
+  return new Uint8Array(view.buffer, 0, Math.floor((letters.length / 5) * 4));
+}
+
 async function compiled() {
-  const packed = Uint8Array.from(atob(at('module').textContent), letter => letter.charCodeAt(0));
+  const packed = bytesOfLetters(at('module').textContent);
   const bytes = await new Response(new Blob([packed]).stream().pipeThrough(new DecompressionStream('gzip'))).arrayBuffer();
   return WebAssembly.compile(bytes);
 }

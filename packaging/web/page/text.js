@@ -12,7 +12,8 @@ function now() {
   return edited.content;
 }
 
-const fileName = () => ownName || KINDS[kind()].text;
+const usualName = () => (kind() === 'log' && at('jsonl').checked ? 'log.jsonl' : KINDS[kind()].text);
+const fileName = () => ownName || usualName();
 
 function putBytes(bytes, name) {
   const editable = isEditable(bytes);
@@ -29,7 +30,7 @@ function putBytes(bytes, name) {
   at('whole').hidden = editable;
   at('whole').textContent = editable ? '' : `${several(bytes.length, 'byte')}, ${several(kept.count, 'line')}: kept as they are and not edited, since the text is long, or isn't UTF-8 with line feeds.`;
   showFiles();
-  forget();
+  leave();
 }
 
 // Puts another text in the place of this one, which comes back if that is undone.

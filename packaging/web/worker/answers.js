@@ -31,13 +31,20 @@ function eventsOf(answers, groups, lines) {
 }
 
 // The lines on which questions of a log begin.
-const QUESTIONS = ['explain,', 'check,', 'relation,', 'influenced,', 'drift,', 'claimed,', 'event,'];
+const QUESTIONS = ['explain,', 'check,', 'relation,', 'influenced,', 'drift,', 'claimed,', 'event,', 'why,', 'tainted,', 'first,'];
 
 function questionsOf(bytes, records) {
   const lines = new Numbers();
   for (let place = 0; place < records.starts.length; place++)
     if (QUESTIONS.some(word => isWord(bytes, records.starts[place], word))) lines.push(records.lines[place]);
   return lines.done();
+}
+
+// Where the rows of groups begin in what an audit with groups found: they stand below all else, and an audit without them leaves the rest.
+function groupRowsAt(answers, rows) {
+  let place = rows.starts.length;
+  while (place > 0 && isWord(answers, rows.starts[place - 1], 'group,')) place--;
+  return place < rows.starts.length ? rows.starts[place] : answers.length;
 }
 
 // Where in the answers to a text of one kind those to each record begin.

@@ -14,7 +14,7 @@ const csvJoined = fields => fields.map(field => JSON.stringify(field)).join();
 
 // The events of a text as the picture names them, each with its node and its name.
 function events(it) {
-  const bytes = it.bytes ?? text, records = recordsOf(bytes), numbers = new Numbers(), nodes = [], names = [], lines = new Numbers();
+  const bytes = it.bytes ?? text, records = recordsBy(bytes, it), numbers = new Numbers(), nodes = [], names = [], lines = new Numbers();
   const first = records.starts.length ? recordAt(bytes, records, 0) : [], columns = first[0] === 'kind' ? first : null;
   const answered = it.kind === 'script' ? answersTo(bytes, it) : [];
   const add = (number, node, name, line) => {
@@ -24,7 +24,10 @@ function events(it) {
     names.push(name);
   };
   for (let place = 0; place < records.starts.length; place++) {
-    const fields = recordAt(bytes, records, place), line = records.lines[place];
+    const line = records.lines[place], told = it.jsonl ? eventIn(bytes.subarray(records.starts[place], records.ends[place]), it) : null;
+    if (told) add(line + 1, told.node, csvJoined([told.kind, told.label]), line);
+    if (it.jsonl) continue;
+    const fields = recordAt(bytes, records, place);
     if (it.kind === 'script' && answered[place]?.[0]?.[0] === 'event') add(numbers.length, fields[1], nameInScript(fields), line);
     if (it.kind === 'log' && LOGGED.includes(fields[0])) add(line + 1, columns ? fields[columns.indexOf('node')] : fields[1], nameInLog(fields, columns, it.form), line);
   }

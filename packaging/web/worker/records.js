@@ -19,7 +19,7 @@ class Numbers {
   }
 }
 
-// Where the records of CSV begin and end, and on which lines, counted from 0. A line ends with a line feed, as the program counts.
+// Where the records of CSV begin and end, and on which lines, counted from 0. A line ends with a line feed or a carriage return, or both, as the program counts.
 function recordsOf(bytes) {
   const starts = new Numbers(), ends = new Numbers(), lines = new Numbers();
   let line = 0, at = bytes[0] === 0xef && bytes[1] === 0xbb && bytes[2] === 0xbf ? 3 : 0;
@@ -41,7 +41,7 @@ function recordsOf(bytes) {
       state = BETWEEN;
     } else if (byte === 44) state = FIELD;
     else state = state === FIELD && byte === 34 ? QUOTED : BARE;
-    if (byte === 10) line++;
+    if (byte === 10 || (byte === 13 && bytes[at + 1] !== 10)) line++;
   }
   if (ends.length < starts.length) ends.push(bytes.length);
   return { starts: starts.done(), ends: ends.done(), lines: lines.done() };

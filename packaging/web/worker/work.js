@@ -18,10 +18,10 @@ function withTail(bytes, tail) {
   return all;
 }
 
-// The answers to questions that are asked after a script or a log: the last rows.
+// The answers to questions that are asked after a script, or beside a log: the last rows.
 function ask(it) {
   const { answer, done } = KINDS[it.kind];
-  const { status, bytes } = answer(withTail(text, it.questions), it);
+  const { status, bytes } = it.kind === 'log' ? answer(text, { ...it, asked: it.questions, report: false, groups: false }) : answer(withTail(text, it.questions), it);
   const groups = groupsBy(it.kind, bytes, recordsOf(bytes)), count = groups.length - 1;
   const last = it.questions.map((_, place) => fieldsOf(bytes.subarray(groups[count - it.questions.length + place], groups[count - it.questions.length + place + 1] - 1)));
   return { status, rows: done.includes(status) && count >= it.questions.length ? last : [] };
@@ -37,17 +37,25 @@ function drawn(bytes, it) {
   return { ...draw(bytes, { ...it, around: it.explain }), around: Number(it.explain) };
 }
 
+// What an audit tells people of a log, as text; or nothing, where there is no answer.
+function tell(it) {
+  const { status, bytes } = commands.audit(text, { ...it, output: 'text' });
+  return { status, words: decode(bytes) };
+}
+
 // All that the page shows of a text of one kind, stage by stage.
 function work(it, stage) {
   const bytes = it.bytes ?? text;
   stage('finding the records');
-  const records = recordsOf(bytes);
+  const records = recordsBy(bytes, it);
   const kind = KINDS[it.kind];
   stage(kind.stage);
-  const { status, bytes: answers } = kind.answer(bytes, it);
+  const { status, bytes: found } = kind.answer(bytes, { ...it, groups: true });
   stage('finding the answers');
+  const grouped = it.kind === 'log' ? groupRowsAt(found, recordsOf(found)) : found.length, answers = it.groups ? found : found.slice(0, grouped);
   const groups = groupsBy(it.kind, answers, recordsOf(answers));
-  const told = { status, answers, groups, lines: records.lines, ...eventsOf(answers, groups, records.lines), questions: it.kind === 'log' ? questionsOf(bytes, records) : [] };
+  const told = { status, answers, groups, lines: records.lines, ...eventsOf(answers, groups, records.lines), questions: it.kind === 'log' && !it.jsonl ? questionsOf(bytes, records) : [] };
+  told.causeGroups = decode(found.subarray(grouped));
   if (it.kind === 'script') told.steps = stepsOf(bytes, records);
   if (!kind.draw || !kind.done.includes(status)) return told;
   stage('drawing');
@@ -64,6 +72,7 @@ onmessage = async ({ data: { id, kind, it } }) => {
     else if (kind === 'work') told = work(it, stage);
     else if (kind === 'search') told = search(it);
     else if (kind === 'ask') told = ask(it);
+    else if (kind === 'tell') told = tell(it);
     else if (kind === 'step') told = step(it);
     else if (kind === 'events') told = events(it);
     else if (kind === 'picture') told = drawn(text, it);

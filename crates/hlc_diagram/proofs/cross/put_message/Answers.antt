@@ -10,8 +10,8 @@ pub put_cross-requires : goal.put_cross-requires
 put_cross-requires g c =
     let s = c.args.scene.now in
     let nodes = (g.S.Subject.content c.args.subject.now).nodes in
-    let message = c.args.message in
-    let shown : is_shown s.frame s.lanes.now c.args.message ≡ true = search rules in
+    let message = c.args.failed.first in
+    let shown : is_shown s.frame s.lanes.now c.args.failed.first ≡ true = search rules in
     let has = among_from s.lanes.now message.to.0 (drawable s.frame s.lanes.now message shown).lane in
     let exists : message.to.0 < nodes = All-contains (λ (node : ℕ). node < nodes) s.lanes.now message.to.0 c.requires.lanes has in
-    subst (λ (x : Cross). x.message.to.0 < nodes) (sym c.cross_to.ensures) exists
+    subst (λ (x : Cross). x.failed.first.to.0 < nodes) (sym c.cross_to.ensures) exists

@@ -22,7 +22,7 @@ returns-clause-text g c =
     let lines = flat_map (λ e. lines_text (figure_of of s.explained s.frame s.lanes.now e)) (places_in s.frame) in
     let fronts = flat_map (λ e. front_text (figure_of of s.explained s.frame s.lanes.now e)) (places_in s.frame) in
     let foot = codes "</svg>\n" in
-    let crosses = flat_map (λ m. if_drawn cross_text (cross_of of s.frame s.lanes.now m)) c.args.undelivered.now in
+    let crosses = flat_map (λ m. if_drawn cross_text (cross_of of s.frame s.lanes.now m)) c.args.messages.now in
     let rest = backs ++ (lanes ++ ((lines ++ crosses) ++ (fronts ++ foot))) in
     let w0 = bytes c.args.writer.now in
     let w1 = bytes c.draw_layer.new.writer in
@@ -45,7 +45,7 @@ returns-clause-text g c =
     c.in_ok-draw_layer-3.ensures.text in
     let text =
     ap (λ (caption : List ℕ). head_text s.frame caption of.legend headings ++ rest) c.requires.caption
-    ∙ parts_of_picture of s.frame s.lanes.now s.explained c.args.undelivered.now in
+    ∙ parts_of_picture of s.frame s.lanes.now s.explained c.args.messages.now in
     on_ok_weaker c.finish.result
     (λ ends. subst (λ (t : List ℕ). Appends w0 w6 t) text (drawn ends)) c.finish.ensures.text
 

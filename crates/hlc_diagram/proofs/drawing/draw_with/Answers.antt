@@ -10,6 +10,8 @@ use Rattle.hlc_diagram.specs.Layout.{end_of, first_of, frame_of, frame_on, lanes
 use Rattle.hlc_figures.specs.Content.{Content, clock_events_of}
 use Rattle.hlc_figures.specs.Figure.{next_of}
 use Rattle.hlc_diagram.specs.Picture.{picture_in, picture_text, picture_with}
+use Rattle.hlc_diagram.specs.Failed.{failed_in}
+use Rattle.hlc_diagram.specs.declared.failed.Failed.{Failed}
 use Rattle.hlc_diagram.specs.declared.undelivered.Undelivered.{Undelivered}
 use Rattle.hlc_figures.proofs.NodeLanes.{lanes_exist}
 use Rattle.hlc_svg.specs.declared.frame.Frame.{Frame}
@@ -76,11 +78,13 @@ draw_scene-requires-clause-scene g c =
 
 -- a frame and lanes that are those of a view make its picture
 drawn_on :
-    (of : Content) (view : View) (frame : Frame) (lanes : List ℕ) (undelivered : List Undelivered) → frame ≡ frame_of of view → lanes ≡ lanes_in of view →
-    picture_text (picture_in of frame lanes view.explained undelivered) ≡ picture_text (picture_with of view undelivered)
-drawn_on of view frame lanes undelivered is are =
-    ap (λ (f : Frame). picture_text (picture_in of f lanes view.explained undelivered)) is
-    ∙ ap (λ (l : List ℕ). picture_text (picture_in of (frame_of of view) l view.explained undelivered)) are
+    (of : Content) (view : View) (frame : Frame) (lanes : List ℕ) (undelivered : List Undelivered) (kept lent : List Failed) → frame ≡ frame_of of view →
+    lanes ≡ lanes_in of view → lent ≡ kept → kept ≡ failed_in undelivered →
+    picture_text (picture_in of frame lanes view.explained lent) ≡ picture_text (picture_with of view undelivered)
+drawn_on of view frame lanes undelivered kept lent is are same once =
+    ap (λ (f : Frame). picture_text (picture_in of f lanes view.explained lent)) is
+    ∙ ap (λ (l : List ℕ). picture_text (picture_in of (frame_of of view) l view.explained lent)) are
+    ∙ ap (λ (m : List Failed). picture_text (picture_in of (frame_of of view) (lanes_in of view) view.explained m)) (same ∙ once)
 
 pub returns-clause-drawn : goal.returns-clause-drawn
 returns-clause-drawn g c =
@@ -89,7 +93,8 @@ returns-clause-drawn g c =
     let w1 = g.W.Write.contents c.draw_scene.new.writer in
     let lanes_are = c.in_ok-layout.ensures.lanes ∙ c.in_ok-lanes.ensures in
     let is = c.in_ok-layout.ensures.frame ∙ ap (λ (lanes : List ℕ). frame_on of c.args.view lanes) c.in_ok-lanes.ensures in
-    subst (λ (t : List ℕ). Appends w0 w1 t) (drawn_on of c.args.view c.in_ok-layout.layout.frame _ c.args.undelivered.now is lanes_are)
+    subst (λ (t : List ℕ). Appends w0 w1 t) (drawn_on of c.args.view c.in_ok-layout.layout.frame _ c.args.undelivered.now
+    c.in_ok-messages.messages.items c.deref-6.result.now is lanes_are c.deref-6.ensures.value c.in_ok-messages.ensures)
     c.in_ok-draw_scene.ensures.text
 
 pub returns-then-lacks-clause-drawn_without : goal.returns-then-lacks-clause-drawn_without
@@ -99,7 +104,8 @@ returns-then-lacks-clause-drawn_without g c =
     let w1 = g.W.Write.contents c.draw_scene.new.writer in
     let lanes_are = c.in_ok-layout.ensures.lanes ∙ c.in_ok-lanes.ensures in
     let is = c.in_ok-layout.ensures.frame ∙ ap (λ (lanes : List ℕ). frame_on of c.args.view lanes) c.in_ok-lanes.ensures in
-    λ no_event. subst (λ (t : List ℕ). Appends w0 w1 t) (drawn_on of c.args.view c.in_ok-layout.layout.frame _ c.args.undelivered.now is lanes_are)
+    λ no_event. subst (λ (t : List ℕ). Appends w0 w1 t) (drawn_on of c.args.view c.in_ok-layout.layout.frame _ c.args.undelivered.now
+    c.in_ok-messages.messages.items c.deref-6.result.now is lanes_are c.deref-6.ensures.value c.in_ok-messages.ensures)
     c.in_ok-draw_scene.ensures.text
 
 pub returns-in_err-lanes : goal.returns-in_err-lanes
@@ -135,6 +141,16 @@ returns-in_err-list g c =
 pub returns-in_err-marks : goal.returns-in_err-marks
 returns-in_err-marks g c =
     let from = err_from_is_err_and c.from_residual-in_err-marks.result c.from_residual-in_err-marks.ensures.1 in
+    rw (from.1, from.2) record {
+      drawn = tt;
+      drawn_without = other_fault _ tt;
+      no_event = other_fault _ tt;
+      event = tt;
+    }
+
+pub returns-in_err-messages : goal.returns-in_err-messages
+returns-in_err-messages g c =
+    let from = err_from_is_err_and c.from_residual-in_err-messages.result c.from_residual-in_err-messages.ensures.1 in
     rw (from.1, from.2) record {
       drawn = tt;
       drawn_without = other_fault _ tt;

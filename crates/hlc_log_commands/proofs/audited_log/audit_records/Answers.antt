@@ -10,7 +10,7 @@ use Rattle.hlc_log_commands.proofs.audited_log.audit_records.Goals as goal
 pub returns-in-Ok-clause-audited : goal.returns-in-Ok-clause-audited
 returns-in-Ok-clause-audited g c =
     subst (λ (bytes : Option (List ℕ)). IfOk c.audit_with_groups.result (λ audited.
-    IsGroupedAudit c.args.rules c.args.grouped c.args.asked.now bytes (g.O.Write.contents c.args.writer.now) (g.O.Write.contents c.audit_with_groups.new.writer) audited.outcome))
+    IsGroupedAudit c.args.rules c.args.told c.args.asked.now bytes (g.O.Write.contents c.args.writer.now) (g.O.Write.contents c.audit_with_groups.new.writer) audited.outcome))
     c.in-Ok.ensures c.audit_with_groups.ensures.audited
 
 pub returns-in-Ok-clause-counted : goal.returns-in-Ok-clause-counted

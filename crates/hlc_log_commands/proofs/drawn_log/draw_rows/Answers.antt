@@ -1,6 +1,6 @@
 use Rattle.std.proofs.Common.{◌≡◌, ◌∙◌, false, inl, refl, sym, true}
 use Rattle.std.proofs.lemmas.Result.{on_ok_weaker}
-use Rattle.hlc_log_commands.specs.declared.part_lines.PartLines.TheVariants.{Rows}
+use Rattle.hlc_command_line.specs.declared.drawn_part.DrawnPart.TheVariants.{Rows}
 use Rattle.hlc_log_commands.specs.DrawnLog.{LacksNamed}
 use Rattle.hlc_log_commands.proofs.DrawnLogs.{explained_absent}
 use Rattle.hlc_log_commands.proofs.drawn_log.draw_rows.Goals as goal

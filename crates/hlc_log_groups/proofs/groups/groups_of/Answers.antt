@@ -1,8 +1,8 @@
-use Rattle.std.proofs.Common.{◌≡◌, ℕ, ◌+◌, ◌<◌, [], ◌∷◌, ◌++◌, length, arith, subst, sym, ap}
+use Rattle.std.proofs.Common.{◌≡◌, ℕ, ◌+◌, [], ◌∷◌, ◌++◌, length, arith, subst, sym, ap}
 use Rattle.hlc_log_audit.specs.Report.{AreCausesBefore}
 use Rattle.hlc_log_audit.proofs.CauseRows.{causes_push, no_answers}
 use Rattle.hlc_log_groups.specs.Groups.{AreGroups, KeyedCauses, keyed_in, total}
-use Rattle.hlc_log_groups.proofs.GroupSteps.{none_begin, no_groups}
+use Rattle.hlc_log_groups.proofs.GroupSteps.{no_groups, none_name}
 use Rattle.hlc_log_groups.proofs.GroupsSoFar.{keyed_more}
 use Rattle.hlc_log_groups.proofs.groups.groups_of.Goals as goal
 
@@ -13,7 +13,7 @@ loop-place-init c =
       [],
       no_answers log c.args.full,
       no_groups c.with_hasher-groups.result.entries none,
-      none_begin (length log.events) c.with_hasher-groups.result.entries none,
+      none_name (length log.events) c.with_hasher-groups.result.entries none,
       omega (arith, ap total none),
     )
 
@@ -28,13 +28,12 @@ loop-place-preserved c =
     let before = c.loop-place.invariant in
     let place = c.loop-place.place in
     let found = c.causes_of-found.result in
-    let added = c.in_ok-add_causes.ensures in
-    let here : place < length log.events = omega (arith, c.len-place-end.ensures.value) in (
+    let added = c.in_ok-add_causes.ensures in (
       before.0 ++ found ∷ [],
       causes_push log c.args.full place before.0 found before.1 c.causes_of-found.ensures.causes,
       subst (λ (causes : KeyedCauses). AreGroups causes c.add_causes.new.groups.entries) (sym (keyed_more log place before.0 found before.1.one_each))
           (added.added (keyed_in log place before.0) before.2),
-      added.places (length log.events) here before.3,
+      added.places before.3,
       omega (arith, added.total, before.4),
     )
 

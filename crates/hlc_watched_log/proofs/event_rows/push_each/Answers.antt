@@ -8,5 +8,5 @@ loop-records-init g c = adds_none (g.W.Write.contents c.args.writer.now) c.args.
 
 pub loop-records-preserved : goal.loop-records-preserved
 loop-records-preserved g c =
-    adds_more _ _ _ _ _ _ (cause_rows c.args.nodes.now c.args.full) c.args.complete.now c.loop-records.records-index _ (omega arith) c.loop-records.invariant
+    adds_more _ _ _ _ _ _ (cause_rows c.args.names.now c.args.full) c.args.complete.now c.loop-records.records-index _ (omega arith) c.loop-records.invariant
     c.in_ok-push_causes.ensures

@@ -8,4 +8,4 @@ use Rattle.hlc_watched_log.proofs.event_rows.push_each.Given as goal
 abbrev pub invariant-loop-records : goal.invariant-loop-records
 invariant-loop-records g l =
     AddsText (g.W.Write.contents l.fn.writer) (g.W.Write.contents l.writer) l.fn.rows l.rows
-    (text_of (flat_map (cause_rows l.nodes l.full) (take l.records-index l.complete)))
+    (text_of (flat_map (cause_rows l.names l.full) (take l.records-index l.complete)))

@@ -15,18 +15,18 @@ use Rattle.hlc_watched_log.proofs.event_rows.push_event.Goals as goal
 
 pub returns : goal.returns
 returns g c =
-    let nodes = c.args.nodes.now in
+    let names = c.args.names.now in
     let complete = c.args.complete.now in
     let event = c.args.event.now in
     let full = c.full-full.result in
-    let first = flat_map (cause_rows nodes full) (if_any complete.event) in
-    let later = flat_map (cause_rows nodes full) c.deref.result.now in
-    let over = row_if (is_over c.args.rules.limit (claimed_ahead event)) (over_row nodes event) in
-    let all : first ++ (later ++ over) ≡ event_rows c.args.rules nodes (complete_in complete) event =
-    ap (λ (waited : List Records). first ++ (flat_map (cause_rows nodes full) waited ++ over)) c.deref.ensures.value
-    ∙ sym (append_assoc first (flat_map (cause_rows nodes full) complete.waited.items) over)
-    ∙ ap (λ (rows : List Fields). rows ++ over) (sym (flat_map-append (cause_rows nodes full) (if_any complete.event) complete.waited.items))
-    ∙ ap (λ (n : ℕ). flat_map (cause_rows nodes n) (complete_in complete) ++ over) c.full-full.ensures in
+    let first = flat_map (cause_rows names full) (if_any complete.event) in
+    let later = flat_map (cause_rows names full) c.deref.result.now in
+    let over = row_if (is_over c.args.rules.limit (claimed_ahead event)) (over_row names c.args.line event) in
+    let all : first ++ (later ++ over) ≡ event_rows c.args.rules names (complete_in complete) c.args.line event =
+    ap (λ (waited : List Records). first ++ (flat_map (cause_rows names full) waited ++ over)) c.deref.ensures.value
+    ∙ sym (append_assoc first (flat_map (cause_rows names full) complete.waited.items) over)
+    ∙ ap (λ (rows : List Fields). rows ++ over) (sym (flat_map-append (cause_rows names full) (if_any complete.event) complete.waited.items))
+    ∙ ap (λ (n : ℕ). flat_map (cause_rows names n) (complete_in complete) ++ over) c.full-full.ensures in
     subst (λ (rows : List Fields).
     OnOk c.push_over.result (AddsRows g.W.Write.contents c.args.writer.now c.push_over.new.writer c.args.rows.now c.push_over.new.rows rows)) all
     (on_ok_weaker c.push_over.result (λ last.

@@ -10,7 +10,7 @@ loop-node-init g c = adds_none (g.W.Write.contents c.args.writer.now) c.args.row
 
 pub loop-node-preserved : goal.loop-node-preserved
 loop-node-preserved g c =
-    adds_row_of_place _ _ _ _ _ _ (node_row c.args.nodes.now c.args.tallies.now) c.loop-node.node c.loop-node.invariant c.in_ok-push_node.ensures
+    adds_row_of_place _ _ _ _ _ _ (node_row c.args.names.now c.args.tallies.now) c.loop-node.node c.loop-node.invariant c.in_ok-push_node.ensures
 
 pub returns : goal.returns
 returns g c =
@@ -18,4 +18,4 @@ returns g c =
     let at = g.W.Write.contents in
     let all : c.loop-node.node ≡ length tallies = omega arith in
     subst (λ (n : ℕ). AddsText (at c.args.writer.now) (at c.loop-node.writer) c.args.rows.now c.loop-node.rows
-    (text_of (map (node_row c.args.nodes.now tallies) (places_below n)))) all c.loop-node.invariant
+    (text_of (map (node_row c.args.names.now tallies) (places_below n)))) all c.loop-node.invariant

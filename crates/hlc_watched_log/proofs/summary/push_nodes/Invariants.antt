@@ -8,4 +8,4 @@ use Rattle.hlc_watched_log.proofs.summary.push_nodes.Given as goal
 abbrev pub invariant-loop-node : goal.invariant-loop-node
 invariant-loop-node g l =
     AddsText (g.W.Write.contents l.fn.writer) (g.W.Write.contents l.writer) l.fn.rows l.rows
-    (text_of (map (node_row l.nodes l.tallies) (places_below l.node)))
+    (text_of (map (node_row l.names l.tallies) (places_below l.node)))

@@ -10,14 +10,14 @@ use Rattle.hlc_open_log.proofs.opened_log.OpenLog.label.Goals as goal
 
 pub returns : goal.returns
 returns c =
-    c.get.ensures
-    ∙ sym (ap (option_and_then (label_at c.self.inside.labels)) (sym c.place_read.ensures ∙ ap (option_map (λ (read : EventId). read.0)) c.in_ok-place_read.was))
-    ∙ sym (label_read (option_map (λ kept. places_of kept.items) c.self.inside.kept) c.self.inside.labels c.args.place.0)
+    c.label.ensures
+    ∙ sym (ap (option_and_then (label_at c.self.inside.details.labels)) (sym c.place_read.ensures ∙ ap (option_map (λ (read : EventId). read.0)) c.in_ok-place_read.was))
+    ∙ sym (label_read (option_map (λ kept. places_of kept.items) c.self.inside.kept) c.self.inside.details.labels c.args.place.0)
     ∙ ap (λ (opened : OpenedLog). label_at opened.labels c.args.place.0) c.self.view_is
 
 pub returns-in_err-place_read : goal.returns-in_err-place_read
 returns-in_err-place_read c =
     ap (option_map (λ (label : Bor (List ℕ)). label.now)) c.from_residual.ensures
-    ∙ ap (option_and_then (label_at c.self.inside.labels)) c.in_err-place_read.ensures
-    ∙ sym (label_read (option_map (λ kept. places_of kept.items) c.self.inside.kept) c.self.inside.labels c.args.place.0)
+    ∙ ap (option_and_then (label_at c.self.inside.details.labels)) c.in_err-place_read.ensures
+    ∙ sym (label_read (option_map (λ kept. places_of kept.items) c.self.inside.kept) c.self.inside.details.labels c.args.place.0)
     ∙ ap (λ (opened : OpenedLog). label_at opened.labels c.args.place.0) c.self.view_is

@@ -12,5 +12,5 @@ invariant_of-self c =
       nodes_are = kept.nodes ∙ was.nodes_are;
       rise = subst LinesRise (sym kept.events) was.rise;
       few = was.few;
-      named = subst (λ (es : List LogEvent). HaveNames es c.self.inside.nodes) (sym kept.events) was.named;
+      named = subst (λ (es : List LogEvent). HaveNames es c.self.inside.details.nodes) (sym kept.events) was.named;
     }

@@ -1,0 +1,2 @@
+pub mod EventQuestion
+pub mod Answer

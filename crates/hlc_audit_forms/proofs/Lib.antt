@@ -1,0 +1,4 @@
+mod CommaLists
+mod FoundItems
+mod Lists
+mod SectionLines

@@ -1,0 +1,10 @@
+pub mod AuditText
+pub mod Hex
+pub mod JsonColumn
+pub mod JsonMember
+pub mod JsonRows
+pub mod JsonText
+pub mod TextPiece
+pub mod TextSection
+pub mod Told
+pub mod ToldRows

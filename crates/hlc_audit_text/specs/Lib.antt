@@ -1,4 +1,0 @@
-pub mod AuditText
-pub mod TextPiece
-pub mod TextSection
-pub mod Told

@@ -1,2 +1,0 @@
-pub mod CommaLists
-pub mod FoundItems

@@ -1,4 +1,0 @@
-pub mod JsonColumn
-pub mod JsonMember
-pub mod JsonRows
-pub mod JsonText
