@@ -1,8 +1,9 @@
 -- What was drawn of a log.
-use Rattle.std.specs.Prelude.{◌≡◌, ◌⊎◌, ℕ, List, Option, None, Some}
+use Rattle.std.specs.Prelude.{⊤, ◌≡◌, ◌⊎◌, ℕ, List, Option, None, Some}
 use Rattle.std.specs.Io.KnownBytes.{Appends}
 use Rattle.hlc_stamp.specs.declared.limits.TheConstants.{MAX_CAPACITY}
 use Rattle.hlc_stamp.specs.declared.id.EventId.{EventId}
+use Rattle.hlc_csv.specs.declared.records_fault.RecordsFault.TheVariants as records
 use Rattle.hlc_diagram.specs.ChainPicture.{chain_picture_text}
 use Rattle.hlc_diagram.specs.Picture.{picture_text}
 use Rattle.hlc_diagram.specs.declared.view.View.{View}
@@ -58,6 +59,13 @@ pub record IsOpenedLacking (opened : OpenedLog) (part : DrawnPart ℕ) (before a
   pub is_drawn : IsDrawnOf opened drawn
   pub absent : LacksNamed drawn part
   pub nothing : after ≡ before
+
+-- a part of an opened log wasn't drawn for this fault: an event is named that it doesn't have, or else the output or the memory failed
+abbrev pub IsDrawingStopped : OpenedLog → DrawnPart ℕ → CommandFault → (before after : Option (List ℕ)) → Type 0
+IsDrawingStopped opened part stop.NoEvent before after = IsOpenedLacking opened part before after
+IsDrawingStopped opened part (stop.Records records.Write) before after = ⊤
+IsDrawingStopped opened part (stop.Records records.Memory) before after = ⊤
+IsDrawingStopped opened part _ before after = ⊥
 
 -- the input is a log of at most so many records, and it was drawn
 abbrev pub IsLogDrawnUpTo : (most : ℕ) → DrawLogOptions → (input before after : Option (List ℕ)) → Type 0

@@ -3,7 +3,7 @@
 ghost use Rattle.std.specs.Prelude.{◌≡◌, ◌↔◌, ◌≤◌, IfErr, IsErrOf, IsTrue, OnOk};
 ghost use Rattle.hlc_stamp.specs.declared.limits.TheConstants.{MAX_CAPACITY};
 ghost use Rattle.hlc_command_fault.specs.Fault.{IsOfAnswer, IsOfInput};
-ghost use Rattle.hlc_log_commands.specs.DrawnLog.{IsAbsent, IsLogDrawnBut, IsLogDrawnUpTo, IsLogDrawnUpToBut, IsLogDrawnWhole, IsOpenedDrawn, IsOpenedLacking, IsPartDrawn, IsViewOf, LacksNamed};
+ghost use Rattle.hlc_log_commands.specs.DrawnLog.{IsAbsent, IsDrawingStopped, IsLogDrawnBut, IsLogDrawnUpTo, IsLogDrawnUpToBut, IsLogDrawnWhole, IsOpenedDrawn, IsOpenedLacking, IsPartDrawn, IsViewOf, LacksNamed};
 ghost use Rattle.hlc_log_commands.specs.Records.{IsLengthTold, records_in};
 ghost use Rattle.hlc_command_line.specs.declared.drawn_part.DrawnPart.TheVariants.{Chain, Rows};
 
@@ -113,6 +113,20 @@ fn draw_opened<O: Write>(
     draw_part(alloc, &pictured, part, writer)
 }
 
+// Draws a part of an opened log, as a command does: the log is lent, and whoever owns it has one way out, on which it is dropped.
+fn draw_lent_log<O: Write>(
+    alloc: Global,
+    log: &mut OpenLog,
+    part: DrawnPart<u64>,
+    writer: &mut O,
+) -> Result<(), CommandFault>
+    ensures done { OnOk result (IsOpenedDrawn log.old part (O.contents writer.old) (O.contents writer.new)) }
+    ensures stopped { IfErr result (λ fault. IsDrawingStopped log.old part fault (O.contents writer.old) (O.contents writer.new)) }
+{
+    draw_opened(alloc, log, part, writer)?;
+    Ok(())
+}
+
 // Draws a part of a log of at most so many records, by options that are lent: whoever owns them has one way out, on which they are dropped.
 fn draw_lent<I: Read + Drop, O: Write>(
     alloc: Global,
@@ -133,8 +147,7 @@ fn draw_lent<I: Read + Drop, O: Write>(
 {
     let mut log = open_or_tell(alloc, reader, writer, options.records, json, most, key)?;
     let part = part_in(log.files(), &options.part);
-    draw_opened(alloc, &mut log, part, writer)?;
-    Ok(())
+    draw_lent_log(alloc, &mut log, part, writer)
 }
 
 /// Draws a part of a log of at most so many records, as `draw_log` does.

@@ -1,24 +1,26 @@
 use Rattle.std.proofs.Common.{◌∙◌, List, ap}
-use Rattle.std.proofs.lemmas.Result.{err_from_is_err_and}
+use Rattle.hlc_command_fault.proofs.Faults.{if_err}
 use Rattle.hlc_log_text.specs.declared.file_mark.FileMark.{FileMark}
 use Rattle.hlc_log_commands.specs.PartLines.{part_in}
-use Rattle.hlc_log_commands.proofs.DrawnLogs.{never_of_input, tells_no_length, told_but}
+use Rattle.hlc_log_commands.proofs.DrawnLogs.{drawn_up_to, never_of_input, on_ok, tells_no_length, told_but}
 use Rattle.hlc_log_commands.proofs.drawn_log.draw_lent.Goals as goal
 
-pub returns-in_err-draw_opened-clause-told : goal.returns-in_err-draw_opened-clause-told
-returns-in_err-draw_opened-clause-told g c =
-    let from = err_from_is_err_and c.from_residual-in_err-draw_opened.result c.from_residual-in_err-draw_opened.ensures.1 in
+pub returns-clause-done : goal.returns-clause-done
+returns-clause-done g c =
     let part = c.part_in-part.ensures ∙ ap (λ (files : List FileMark). part_in files c.args.options.now.part) c.files.ensures in
-    rw (from.1, from.2)
-    (told_but c.args.most c.args.options.now _ _ _ _ _ c.in_err-draw_opened.field-0.0 part c.in_ok-log.ensures.opened
-    (rw c.in_ok-log.ensures.nothing at c.in_err-draw_opened.ensures.without))
+    on_ok c.draw_lent_log.result (drawn_up_to c.args.most c.args.options.now _ _ _ _ _ part c.in_ok-log.ensures.opened)
+    (rw c.in_ok-log.ensures.nothing at c.draw_lent_log.ensures.done)
 
-pub returns-in_err-draw_opened-clause-too_long : goal.returns-in_err-draw_opened-clause-too_long
-returns-in_err-draw_opened-clause-too_long g c =
-    let from = err_from_is_err_and c.from_residual-in_err-draw_opened.result c.from_residual-in_err-draw_opened.ensures.1 in
-    rw (from.1, from.2) (tells_no_length c.args.most c.args.options.now.records _ c.in_err-draw_opened.field-0.0)
+pub returns-clause-told : goal.returns-clause-told
+returns-clause-told g c =
+    let part = c.part_in-part.ensures ∙ ap (λ (files : List FileMark). part_in files c.args.options.now.part) c.files.ensures in
+    if_err c.draw_lent_log.result _ _ (λ fault. told_but c.args.most c.args.options.now _ _ _ _ _ fault part c.in_ok-log.ensures.opened)
+    (rw c.in_ok-log.ensures.nothing at c.draw_lent_log.ensures.stopped)
 
-pub returns-in_err-draw_opened-clause-unread : goal.returns-in_err-draw_opened-clause-unread
-returns-in_err-draw_opened-clause-unread g c =
-    let from = err_from_is_err_and c.from_residual-in_err-draw_opened.result c.from_residual-in_err-draw_opened.ensures.1 in
-    rw (from.1, from.2) (λ is. absurd (never_of_input c.in_err-draw_opened.field-0.0 is))
+pub returns-clause-unread : goal.returns-clause-unread
+returns-clause-unread g c =
+    if_err c.draw_lent_log.result _ _ (λ fault stopped is. absurd (never_of_input _ _ _ _ fault stopped is)) c.draw_lent_log.ensures.stopped
+
+pub returns-clause-too_long : goal.returns-clause-too_long
+returns-clause-too_long g c =
+    if_err c.draw_lent_log.result _ _ (λ fault. tells_no_length c.args.most c.args.options.now.records _ _ _ _ _ fault) c.draw_lent_log.ensures.stopped
