@@ -188,6 +188,25 @@ def try_json(page, program):
     hold("options of lines of JSON don't come back from the address", words_of(page)[1][: len(SERVICE_WORDS) + 1] == ["draw-log", *SERVICE_WORDS])
 
 
+# Two files whose headers name the columns in another order.
+HEADED = """==> eu.csv <==
+kind,node,label,reading,l,c,message
+send,a,first,10,10,0,m
+==> us.csv <==
+kind,message,c,l,reading,node,label
+receive,m,1,10,5,b,second
+"""
+
+
+def try_headers(page, program):
+    """A search by fields, where each file has a header of its own."""
+    page.answer("log", HEADED, stamps="pair", limit="")
+    for found, says in [("node:a", "1 of 1: line eu.csv:2"), ("node:b", "1 of 1: line us.csv:2"), ("label:second", "1 of 1: line us.csv:2"), ("node:m", "Nothing found.")]:
+        page.ask(f"document.getElementById('found').textContent = ''; document.getElementById('search').value = '{found}'; document.getElementById('find').click()")
+        page.wait("document.getElementById('found').textContent !== ''")
+        hold(f"a search for {found} says {page.text('found')}", page.text("found") == says)
+
+
 def try_reading(page, program):
     """The other options by which a log is read, and what they leave of it."""
     text = "send,a,10,10,0,m\nsend,a,20,20,0,m\nreceive,b,20,20,1,m\nlocal,b,x,30,0\nlocal,b,40,39,0\n"
@@ -275,4 +294,4 @@ def try_stop(page, program):
     hold("after a stopped run it answers something else", page.text("answers") == "event,0,10,0\n")
 
 
-CHECKS = [try_several_files, try_long_files, try_files, try_long_text, try_kinds, try_json, try_reading, try_undo, try_outdated, try_stop]
+CHECKS = [try_several_files, try_long_files, try_files, try_long_text, try_kinds, try_json, try_headers, try_reading, try_undo, try_outdated, try_stop]

@@ -14,8 +14,7 @@ const csvJoined = fields => fields.map(field => JSON.stringify(field)).join();
 
 // The events of a text as the picture names them, each with its node and its name.
 function events(it) {
-  const bytes = it.bytes ?? text, records = recordsBy(bytes, it), numbers = new Numbers(), nodes = [], names = [], lines = new Numbers();
-  const first = records.starts.length ? recordAt(bytes, records, 0) : [], columns = first[0] === 'kind' ? first : null;
+  const bytes = it.bytes ?? text, records = recordsBy(bytes, it), numbers = new Numbers(), nodes = [], names = [], lines = new Numbers(), header = new Header();
   const answered = it.kind === 'script' ? answersTo(bytes, it) : [];
   const add = (number, node, name, line) => {
     numbers.push(number);
@@ -28,6 +27,8 @@ function events(it) {
     if (told) add(line + 1, told.node, csvJoined([told.kind, told.label]), line);
     if (it.jsonl) continue;
     const fields = recordAt(bytes, records, place);
+    header.take(fields);
+    const { columns } = header;
     if (it.kind === 'script' && answered[place]?.[0]?.[0] === 'event') add(numbers.length, fields[1], nameInScript(fields), line);
     if (it.kind === 'log' && LOGGED.includes(fields[0])) add(line + 1, columns ? fields[columns.indexOf('node')] : fields[1], nameInLog(fields, columns, it.form), line);
   }

@@ -71,3 +71,14 @@ function fieldsOf(bytes) {
 }
 
 const isWord = (bytes, at, word) => [...word].every((letter, place) => bytes[at + place] === letter.charCodeAt(0));
+
+// Which columns the events of a log have, record by record: those that the header of their file names; a file without one has none.
+class Header {
+  columns = null;
+  begins = true;
+  take(fields) {
+    const isMark = fields.length === 1 && /^==> .+ <==$/s.test(fields[0]);
+    if (isMark || this.begins) this.columns = fields[0] === 'kind' ? fields : null;
+    this.begins = isMark;
+  }
+}

@@ -1,6 +1,6 @@
 // The search for records.
 
-// Which field of a record is its node, its key, its label. In a log with a header, that names the columns of an event.
+// Which field of a record is its node, its key, its label. In a file with a header, that names the columns of an event.
 function placeOf(what, word, count, columns) {
   if (columns && what !== 'key' && ['local', 'send', 'receive', 'restart'].includes(word)) return columns.indexOf(what);
   const places = {
@@ -13,17 +13,16 @@ function placeOf(what, word, count, columns) {
 
 // The lines of the records that have all of some words: `node:`, `key:` and `label:` ask for one field. Of a line of JSON each word may be anywhere.
 function search(it) {
-  const { words } = it, records = recordsBy(text, it), found = new Numbers();
+  const { words } = it, records = recordsBy(text, it), found = new Numbers(), header = new Header();
   const wanted = words.toLowerCase().split(/\s+/).filter(word => word);
-  const first = records.starts.length ? fieldsOf(text.subarray(records.starts[0], records.ends[0])) : [];
-  const columns = first[0] === 'kind' ? first : null;
   for (let place = 0; wanted.length && place < records.starts.length; place++) {
     const bytes = text.subarray(records.starts[place], records.ends[place]), event = it.jsonl ? eventIn(bytes, it) : null;
-    const fields = (it.jsonl ? [decode(bytes)] : fieldsOf(bytes)).map(field => field.toLowerCase());
+    const told = it.jsonl ? [decode(bytes)] : fieldsOf(bytes), fields = told.map(field => field.toLowerCase());
+    header.take(told);
     const has = word => {
       const [, what, value] = /^(node|key|label):(.*)$/s.exec(word) ?? [];
       if (!what) return fields.some(field => field.includes(word));
-      const field = it.jsonl ? event?.[what]?.toLowerCase() : fields[placeOf(what, fields[0], fields.length, columns)];
+      const field = it.jsonl ? event?.[what]?.toLowerCase() : fields[placeOf(what, fields[0], fields.length, header.columns)];
       return field !== undefined && (what === 'label' ? field.includes(value) : field === value);
     };
     if (wanted.every(has)) found.push(records.lines[place]);
