@@ -133,6 +133,15 @@ def many_rows():
     yield "many verdicts", JUDGE, numbered("local,0,10,10,{}\n"), numbered("verdict,{},least\n")
 
 
+def sent_again():
+    """A log in which 61 messages are sent again: each receive is of the second send, or else of the first, after which its count leads."""
+    log = "".join(f"send,a,{at},{at},0,m{at}\nsend,a,{at + 5},{at + 5},0,m{at}\nreceive,b,{at + 5},{at + 5},1,m{at}\n" for at in range(20, 1240, 20))
+    yield "61 messages sent again, last", "audit --resent last", log, "count,least,183\nnode,a,122,0,1,1\nnode,b,61,0,3,2\nmessages,122,61,0,61\nskew,a,b,0,2,3\nresent,61\n"
+    causes = "".join(f"cause,{3 * place},b,ahead,{20 * place + 5},0\n" for place in range(1, 62))
+    rows = f"count,least,122\ncount,ahead,61\n{causes}node,a,122,0,1,1\nnode,b,61,0,3,3\nmessages,122,61,0,61\nskew,a,b,-5,1,3\nresent,61\n"
+    yield "61 messages sent again, first", "audit --resent first", log, rows
+
+
 def as_many_as_may_be():
     """As many records as a text may have, and one more: a script is answered up to it, and of a trace there is no verdict, nor anything of a log."""
     too_long = "hlc: too many records\n", 1
@@ -149,6 +158,6 @@ def as_many_as_may_be():
 
 def runs():
     """All of them. Most end well, and tell of no error."""
-    for made in at_limits, prefixes, digits, long_records, many_rows, as_many_as_may_be:
+    for made in at_limits, prefixes, digits, long_records, many_rows, sent_again, as_many_as_may_be:
         for what, words, given, output, *end in made():
             yield what, words, given, output, *(end or ("", 0))
