@@ -9,6 +9,8 @@ use Rattle.hlc_svg.specs.declared.look.Form.{Form}
 use Rattle.hlc_svg.specs.declared.look.Form.TheVariants.{Box, Dip, Hexagon, Peak, Pill, Slant}
 use Rattle.hlc_svg.specs.declared.look.Look.{Look}
 use Rattle.hlc_svg.specs.declared.shapes.Band.{Band}
+use Rattle.hlc_svg.specs.declared.shapes.Border.{Border}
+use Rattle.hlc_svg.specs.declared.shapes.Border.TheVariants.{Lower, Upper}
 use Rattle.hlc_svg.specs.declared.shapes.End.{End}
 use Rattle.hlc_svg.specs.declared.shapes.Lane.{Lane}
 use Rattle.hlc_svg.specs.declared.shapes.Link.{Link}
@@ -43,10 +45,18 @@ arrow_begins s = codes "<polyline class=\"" ++ ((if s.is_marked then codes "p" e
 abbrev pub arrow_text : Arrow → List ℕ
 arrow_text s = arrow_begins s ++ (points_text (path_of s.route) ++ codes "\"/>\n")
 
--- that of an arrow over a border, with the number of the event at its other end
+-- the class of an arrow over a border, by which the style gives it its head: what comes in has it at the dot, and what leaves in the same row, below
+-- where it turns
+abbrev pub end_class : Border → Bool → List ℕ
+end_class Upper false = codes "e"
+end_class Upper true = codes "q"
+end_class Lower false = codes "o"
+end_class Lower true = codes "s"
+
+-- the line of such an arrow, with the number of the event at its other end
 abbrev pub end_text : End → List ℕ
 end_text s =
-    codes "<polyline class=\"" ++ ((if s.is_marked then codes "q" else codes "e") ++ (codes "\" points=\"" ++ (points_text (course_of s)
+    codes "<polyline class=\"" ++ (end_class s.border s.is_marked ++ (codes "\" points=\"" ++ (points_text (course_of s)
     ++ (codes "\"/><text class=\"f\" x=\"" ++ (decimal s.number_x ++ (codes "\" y=\"" ++ (decimal (s.y - 3)
     ++ (codes "\">" ++ (decimal s.number ++ codes "</text>\n")))))))))
 
