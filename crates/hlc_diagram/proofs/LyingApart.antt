@@ -1,5 +1,5 @@
 -- The laws of arrows that don't lie on one another.
-use Rattle.std.proofs.Common.{◌≡◌, ◌≢◌, ◌∙◌, ◌⊎◌, ℕ, ◌+◌, ◌-◌, ◌*◌, ◌/◌, ◌<◌, ◌≤◌, Bool, true, false, inl, inr, Contains, List, Option, Some, ap, arith, refl, subst, sym}
+use Rattle.std.proofs.Common.{◌≡◌, ◌≢◌, ◌∙◌, ◌⊎◌, ℕ, ◌+◌, ◌<◌, ◌≤◌, Bool, inl, inr, Contains, Option, Some, ap, arith, refl, subst, sym}
 use Rattle.std.proofs.lemmas.Bool.{cases_Bool, cases_eq, cases_lt}
 use Rattle.hlc_causality.specs.Causality.{skeleton_at}
 use Rattle.hlc_figures.specs.Columns.{greatest_number, half_width, places_from}
@@ -30,7 +30,7 @@ use Rattle.hlc_svg.proofs.Meeting.{path_apart}
 use Rattle.hlc_figures.proofs.Placed.{made_of, parts_of}
 use Rattle.hlc_diagram.proofs.Crosses.{is_cross}
 use Rattle.hlc_diagram.proofs.Crossings.{end_from, end_to, entering, entering_at, entering_kinds, entering_more, leaving, leaving_at, leaving_kinds, leaving_more}
-use Rattle.hlc_diagram.proofs.Drawn.{arrow, arrow_kinds, arrows, arrows_more, count, dot, dot_is, first, frame, lanes, placed_from}
+use Rattle.hlc_diagram.proofs.Drawn.{arrow, arrow_kinds, arrows, arrows_more, count, dot_is, first, frame, lanes, placed_from}
 
 -- an arrow to the same lane goes less far than one over a border turns
 turns_further : (border : Border) (number distance : ℕ) → distance ≤ half_width number + FURTHER → distance < turn_distance border (half_width number)
