@@ -53,12 +53,16 @@ end_class Upper true = codes "q"
 end_class Lower false = codes "o"
 end_class Lower true = codes "s"
 
--- the line of such an arrow, with the number of the event at its other end
+-- the line of such an arrow
 abbrev pub end_text : End → List ℕ
 end_text s =
-    codes "<polyline class=\"" ++ (end_class s.border s.is_marked ++ (codes "\" points=\"" ++ (points_text (course_of s)
-    ++ (codes "\"/><text class=\"f\" x=\"" ++ (decimal s.number_x ++ (codes "\" y=\"" ++ (decimal (s.y - 3)
-    ++ (codes "\">" ++ (decimal s.number ++ codes "</text>\n")))))))))
+    codes "<polyline class=\"" ++ (end_class s.border s.is_marked ++ (codes "\" points=\"" ++ (points_text (course_of s) ++ codes "\"/>\n")))
+
+-- the number of the event at its other end
+abbrev pub number_text : End → List ℕ
+number_text s =
+    codes "<text class=\"f\" x=\"" ++ (decimal s.number_x ++ (codes "\" y=\"" ++ (decimal (s.y - 3)
+    ++ (codes "\">" ++ (decimal s.number ++ codes "</text>\n")))))
 
 -- how far something is from the middle of a dot: to the left of it or above it, or to the right or below
 pub data Coordinate : Type 0 where
@@ -156,3 +160,7 @@ dot_text s title = dot_begins s ++ (title ++ (ring_if s.look.is_ringed s.half ++
 abbrev pub if_drawn : {X : Type 0} → (X → List ℕ) → Option X → List ℕ
 if_drawn text None = []
 if_drawn text (Some x) = text x
+
+-- the numbers at the arrows over a border that come to a dot and leave it, if they are drawn
+abbrev pub numbers_text : (entering leaving : Option End) → List ℕ
+numbers_text entering leaving = if_drawn number_text entering ++ if_drawn number_text leaving

@@ -2,7 +2,7 @@
 
 ghost use Rattle.std.specs.Prelude.{◌≡◌, ◌++◌, OnOk, Some, string_bytes};
 ghost use Rattle.hlc_svg.specs.Path.{course_of, point_text, points_text};
-ghost use Rattle.hlc_svg.specs.Shapes.{end_class, end_text, lane_line, name_begins};
+ghost use Rattle.hlc_svg.specs.Shapes.{end_class, end_text, number_text, lane_line, name_begins};
 
 use crate::frame::{HEADING_Y, TOP};
 use hlc_stamp::{EventId, NodeId};
@@ -127,12 +127,27 @@ impl fmt::Display for End {
 
     fn fmt<W: fmt::Write>(&self, f: &mut fmt::Formatter<W>) -> fmt::Result {
         let class = end_class(self.border, self.is_marked);
-        let (number_x, number_y, number) = (self.number_x, self.y.saturating_sub(3), self.number);
         let course = Course { end: *self };
-        write!(
-            f,
-            "<polyline class=\"{class}\" points=\"{course}\"/><text class=\"f\" x=\"{number_x}\" y=\"{number_y}\">{number}</text>\n"
-        )
+        write!(f, "<polyline class=\"{class}\" points=\"{course}\"/>\n")
+    }
+}
+
+// The number at such an arrow.
+#[derive(Clone, Copy)]
+pub(crate) struct Numbered {
+    pub(crate) end: End,
+}
+
+impl fmt::Display for Numbered {
+    ghost output = { λ numbered. Some (number_text numbered.end) };
+
+    fn fmt<W: fmt::Write>(&self, f: &mut fmt::Formatter<W>) -> fmt::Result {
+        let (x, y, number) = (
+            self.end.number_x,
+            self.end.y.saturating_sub(3),
+            self.end.number,
+        );
+        write!(f, "<text class=\"f\" x=\"{x}\" y=\"{y}\">{number}</text>\n")
     }
 }
 
