@@ -72,7 +72,7 @@ abbrev pub CrossesKeepClear : Type 0
 CrossesKeepClear = (c : Content) (view : View) (undelivered : List Undelivered) (x : NamedCross) (dot : Dot) →
     Contains (picture_with c view undelivered).crosses x → Contains (dots_in (picture_with c view undelivered)) dot → KeepsClear dot (path_of x.cross.route)
 
--- and one to the lane that it comes from has no more than points in common with an arrow over a border at a dot of that lane
+-- such an arrow to the lane that it comes from has no more than points in common with an arrow over a border at a dot of that lane
 abbrev pub OwnCrossesLieApart : Type 0
 OwnCrossesLieApart = (c : Content) (view : View) (undelivered : List Undelivered) (x : NamedCross) (end : End) (dot : Dot) →
     Contains (picture_with c view undelivered).crosses x → x.cross.route.from ≡ x.cross.route.to →

@@ -127,11 +127,11 @@ OwnArrowsLieApart = (c : Content) (view : View) (arrow : Arrow) (end : End) (dot
     Contains (dots_in (picture_of c view)) dot → dot.at.y ≡ end.y → dot.at.x ≡ x_of (picture_of c view).frame arrow.route.from.0 →
     LieApart (path_of arrow.route) (course_of end)
 
--- of two arrows over one border, one turns a row higher than the other, or they are the same. So their heads don't meet: each stands within half a row
--- of where its arrow turns
+-- of two arrows, one turns a row higher than the other, or they are the same
 abbrev pub TurnInRows : List End → Type 0
 TurnInRows ends = (a b : End) → Contains ends a → Contains ends b → (a ≡ b) ⊎ ((a.y + ROW ≤ b.y) ⊎ (b.y + ROW ≤ a.y))
 
+-- so it is of the arrows over each border: so their heads don't meet, each of which stands within half a row of where its arrow turns
 abbrev pub BorderArrowsTurnInRows : Type 0
 BorderArrowsTurnInRows = (c : Content) (view : View) → TurnInRows (entering_in (picture_of c view)) × TurnInRows (leaving_in (picture_of c view))
 
