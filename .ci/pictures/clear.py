@@ -71,6 +71,21 @@ def runs_through(points, dots):
     return False
 
 
+def share_a_stretch(p, q, r, s):
+    """Whether two straight lines lie on one another for a while: they run the same way, in one line, and there is more than a point of both."""
+    across, down = q[0] - p[0], q[1] - p[1]
+    if any(across * (end[1] - p[1]) != down * (end[0] - p[0]) for end in (r, s)):
+        return False
+    axis = 0 if abs(across) >= abs(down) else 1
+    (low, high), (other_low, other_high) = (sorted((one[axis], other[axis])) for one, other in ((p, q), (r, s)))
+    return max(low, other_low) < min(high, other_high)
+
+
+def lie_on_one_another(points, others):
+    """Whether two arrows do so."""
+    return any(share_a_stretch(p, q, r, s) for p, q in zip(points, points[1:]) for r, s in zip(others, others[1:]))
+
+
 def count(picture):
     """How many arrows a picture has, and how many of them run through a dot."""
     root = tree.fromstring(picture)

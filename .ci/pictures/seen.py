@@ -14,7 +14,7 @@ import xml.etree.ElementTree as tree
 
 SVG = "{http://www.w3.org/2000/svg}"
 SHAPES, LINES = ("rect", "polygon"), ("line", "polyline", "path")
-PROPERTIES = {"fill", "stroke", "stroke-width", "stroke-dasharray", "marker-end", "text-anchor", "font", "font-size", "font-weight", "paint-order"}
+PROPERTIES = {"fill", "stroke", "stroke-width", "stroke-dasharray", "marker-end", "marker-mid", "text-anchor", "font", "font-size", "font-weight", "paint-order"}
 INHERITED = {"fill": "#000", "stroke": "none", "stroke-width": "1"}
 SHAPE_CONTRAST, TEXT_CONTRAST, LEAST_FONT = 3, 4.5, 10
 DARK = re.compile(r"@media \(prefers-color-scheme:dark\)\{((?:[^{}]*\{[^{}]*\})*)\}")

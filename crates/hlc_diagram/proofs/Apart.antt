@@ -14,7 +14,7 @@ use Rattle.hlc_svg.specs.Clear.{KeepsClear, LineKeepsClear}
 use Rattle.hlc_svg.specs.Path.{course_of, path_of}
 use Rattle.hlc_figures.specs.FigureText.{NamedLane, named_lane_of}
 use Rattle.hlc_svg.specs.declared.arrow.Arrow.{Arrow}
-use Rattle.hlc_svg.specs.declared.route.TheConstants.{AROUND}
+use Rattle.hlc_svg.specs.declared.route.TheConstants.{FURTHER}
 use Rattle.hlc_svg.specs.declared.shapes.Border.{Border}
 use Rattle.hlc_svg.specs.declared.shapes.Border.TheVariants.{Lower, Upper}
 use Rattle.hlc_svg.specs.declared.dot.Dot.{Dot}
@@ -36,7 +36,7 @@ room half = omega arith
 pub room_for_two : (half : ℕ) → half + half ≤ lane_distance half
 room_for_two half = omega arith
 
-pub around_room : (half : ℕ) → half + AROUND + half ≤ lane_distance half
+pub around_room : (half : ℕ) → half + FURTHER + half ≤ lane_distance half
 around_room half = omega arith
 
 module _ (c : Content) (view : View) where

@@ -23,7 +23,7 @@ use Rattle.hlc_svg.specs.Path.{path_of}
 use Rattle.hlc_svg.specs.declared.arrow.Arrow.{Arrow}
 use Rattle.hlc_svg.specs.Shapes.{reach_of}
 use Rattle.hlc_svg.specs.declared.look.Look.{Look}
-use Rattle.hlc_svg.specs.declared.route.TheConstants.{AROUND}
+use Rattle.hlc_svg.specs.declared.route.TheConstants.{FURTHER}
 use Rattle.hlc_figures.specs.declared.chain_rows.ChainRow.{ChainRow}
 use Rattle.hlc_figures.specs.declared.chain_rows.ChainRow.TheVariants.{Between, Event}
 use Rattle.hlc_figures.specs.declared.chain_rows.Standing.{Standing}
@@ -108,7 +108,7 @@ module _ (c : Content) (frame : Frame) (lanes : List ℕ) where
   stands : (at : Standing) → StandsAt frame (dot_in c frame lanes at) (lane_at c lanes at.event.0) (frame.first + at.row)
   stands at = record { half = refl; lane = refl; row = omega arith }
 
-  keeps_clear : (room : 2 * frame.half < frame.lane_distance) (around : frame.half + AROUND + frame.half ≤ frame.lane_distance)
+  keeps_clear : (room : 2 * frame.half < frame.lane_distance) (around : frame.half + FURTHER + frame.half ≤ frame.lane_distance)
       (reach : (look : Look) → (frame.half ≤ reach_of look frame.half) × (reach_of look frame.half + frame.half ≤ frame.lane_distance)) (rows : List ChainRow)
       (a : Arrow) (d : Dot) → Contains (filter_map arrow_in_row (map (item_of c frame lanes) rows)) a →
       Contains (filter_map dot_in_row (map (item_of c frame lanes) rows)) d → KeepsClear d (path_of a.route)

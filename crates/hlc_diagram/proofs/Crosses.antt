@@ -82,7 +82,7 @@ module _ (c : Content) (view : View) where
       }
 
 -- of a message comes an arrow if it is shown
-is_cross : (c : Content) (frame : Frame) (lanes : List ℕ) (m : Failed) (x : NamedCross) → cross_of c frame lanes m ≡ Some x →
+pub is_cross : (c : Content) (frame : Frame) (lanes : List ℕ) (m : Failed) (x : NamedCross) → cross_of c frame lanes m ≡ Some x →
     IsDrawable frame lanes m.first × (named_cross c (cross_to c frame lanes m) ≡ x)
 is_cross c frame lanes m x is =
     elim (cases_Bool (is_shown frame lanes m.first)) [

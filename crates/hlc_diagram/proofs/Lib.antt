@@ -8,6 +8,7 @@ pub mod FailedMessages
 pub mod Faults
 pub mod GoingOn
 pub mod Laned
+pub mod LyingApart
 pub mod Steps
 pub mod Texts
 pub mod Windows

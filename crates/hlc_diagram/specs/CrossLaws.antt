@@ -6,12 +6,15 @@ use Rattle.hlc_diagram.specs.Cross.{NamedCross}
 use Rattle.hlc_diagram.specs.Failed.{is_same_message, message_of}
 use Rattle.hlc_diagram.specs.Layout.{lanes_in}
 use Rattle.hlc_figures.specs.FigureText.{NamedLane}
-use Rattle.hlc_diagram.specs.Laws.{IsAtDot, IsInRange, dots_in}
+use Rattle.hlc_diagram.specs.Laws.{IsAtDot, IsInRange, dots_in, entering_in, leaving_in}
 use Rattle.hlc_svg.specs.Clear.{KeepsClear, NeverRises}
-use Rattle.hlc_svg.specs.Path.{arrow_end, arrow_start, path_of}
+use Rattle.hlc_svg.specs.Frame.{x_of}
+use Rattle.hlc_svg.specs.Meeting.{LieApart}
+use Rattle.hlc_svg.specs.Path.{arrow_end, arrow_start, course_of, path_of}
 use Rattle.hlc_diagram.specs.Picture.{Picture, picture_of, picture_with}
 use Rattle.hlc_svg.specs.declared.dot.Dot.{Dot}
 use Rattle.hlc_svg.specs.declared.frame.TheConstants.{ROW}
+use Rattle.hlc_svg.specs.declared.shapes.End.{End}
 use Rattle.hlc_svg.specs.declared.shapes.Point.{Point}
 use Rattle.hlc_diagram.specs.declared.undelivered.Undelivered.{Undelivered}
 use Rattle.hlc_diagram.specs.declared.view.View.{View}
@@ -68,6 +71,14 @@ CrossesAreOfMessages = (c : Content) (view : View) (undelivered : List Undeliver
 abbrev pub CrossesKeepClear : Type 0
 CrossesKeepClear = (c : Content) (view : View) (undelivered : List Undelivered) (x : NamedCross) (dot : Dot) →
     Contains (picture_with c view undelivered).crosses x → Contains (dots_in (picture_with c view undelivered)) dot → KeepsClear dot (path_of x.cross.route)
+
+-- such an arrow to the lane that it comes from has no more than points in common with an arrow over a border at a dot of that lane
+abbrev pub OwnCrossesLieApart : Type 0
+OwnCrossesLieApart = (c : Content) (view : View) (undelivered : List Undelivered) (x : NamedCross) (end : End) (dot : Dot) →
+    Contains (picture_with c view undelivered).crosses x → x.cross.route.from ≡ x.cross.route.to →
+    Contains (entering_in (picture_of c view)) end ⊎ Contains (leaving_in (picture_of c view)) end →
+    Contains (dots_in (picture_of c view)) dot → dot.at.y ≡ end.y → dot.at.x ≡ x_of (picture_of c view).frame x.cross.route.from.0 →
+    LieApart (path_of x.cross.route) (course_of end)
 
 -- but for these arrows a picture is that of the same view without them, so all that holds of that holds of it
 abbrev pub NothingElseChanges : Type 0

@@ -17,7 +17,7 @@ use Rattle.hlc_figures.specs.FigureText.{Figure, NamedLane}
 use Rattle.hlc_diagram.specs.Picture.{Picture, picture_of}
 use Rattle.hlc_figures.specs.Row.{row_cells}
 use Rattle.hlc_figures.specs.Title.{title_text}
-use Rattle.hlc_svg.specs.declared.frame.TheConstants.{TOP}
+use Rattle.hlc_svg.specs.declared.frame.TheConstants.{ROW, TOP}
 use Rattle.hlc_svg.specs.declared.arrow.Arrow.{Arrow}
 use Rattle.hlc_svg.specs.declared.dot.Dot.{Dot}
 use Rattle.hlc_svg.specs.declared.shapes.End.{End}
@@ -25,6 +25,7 @@ use Rattle.hlc_svg.specs.declared.shapes.Link.{Link}
 use Rattle.hlc_svg.specs.declared.shapes.Point.{Point}
 use Rattle.hlc_diagram.specs.declared.view.View.{View}
 use Rattle.hlc_svg.specs.Clear.{KeepsClear, NeverRises}
+use Rattle.hlc_svg.specs.Meeting.{LieApart}
 
 -- the dots, the arrows and the lines along lanes of a picture
 abbrev pub dots_in : Picture → List Dot
@@ -118,6 +119,21 @@ abbrev pub BorderArrowsKeepClear : Type 0
 BorderArrowsKeepClear = (c : Content) (view : View) (end : End) (dot : Dot) →
     Contains (entering_in (picture_of c view)) end ⊎ Contains (leaving_in (picture_of c view)) end →
     Contains (dots_in (picture_of c view)) dot → KeepsClear dot (course_of end)
+
+-- an arrow to the lane that it comes from, and one over a border at a dot of that lane, have no more than points in common
+abbrev pub OwnArrowsLieApart : Type 0
+OwnArrowsLieApart = (c : Content) (view : View) (arrow : Arrow) (end : End) (dot : Dot) → Contains (arrows_in (picture_of c view)) arrow →
+    arrow.route.from ≡ arrow.route.to → Contains (entering_in (picture_of c view)) end ⊎ Contains (leaving_in (picture_of c view)) end →
+    Contains (dots_in (picture_of c view)) dot → dot.at.y ≡ end.y → dot.at.x ≡ x_of (picture_of c view).frame arrow.route.from.0 →
+    LieApart (path_of arrow.route) (course_of end)
+
+-- of two arrows, one turns a row higher than the other, or they are the same
+abbrev pub TurnInRows : List End → Type 0
+TurnInRows ends = (a b : End) → Contains ends a → Contains ends b → (a ≡ b) ⊎ ((a.y + ROW ≤ b.y) ⊎ (b.y + ROW ≤ a.y))
+
+-- so it is of the arrows over each border: so their heads don't meet, each of which stands within half a row of where its arrow turns
+abbrev pub BorderArrowsTurnInRows : Type 0
+BorderArrowsTurnInRows = (c : Content) (view : View) → TurnInRows (entering_in (picture_of c view)) × TurnInRows (leaving_in (picture_of c view))
 
 -- unless each node has a lane, the node of a lane has a dot on it
 abbrev pub LanesAreOfDots : Type 0

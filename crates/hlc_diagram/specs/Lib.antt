@@ -14,6 +14,7 @@ pub use Rattle.hlc_svg.specs.Frame
 pub use Rattle.hlc_svg.specs.Label
 pub use Rattle.hlc_svg.specs.LabelLaws
 pub use Rattle.hlc_svg.specs.Letters
+pub use Rattle.hlc_svg.specs.Meeting
 pub use Rattle.hlc_svg.specs.Numbers
 pub use Rattle.hlc_svg.specs.Path
 pub use Rattle.hlc_svg.specs.Shapes

@@ -1,8 +1,8 @@
 //! The laws of pictures. Each is the contract of a function that does nothing.
 
 ghost use Rattle.hlc_diagram.specs.ChainLaws.{ChainArrowsKeepClear, ChainDotsStandOnLanes, ChainLanesAreOfDots, DotsAreTheChain, GapsCountWhatLiesBetween};
-ghost use Rattle.hlc_diagram.specs.CrossLaws.{CrossesAreOfMessages, CrossesKeepClear, EachMessageHasItsCross, NothingElseChanges};
-ghost use Rattle.hlc_diagram.specs.Laws.{ArrowsAreOfDeliveries, ArrowsComeIn, ArrowsKeepClear, ArrowsLeave, BorderArrowsKeepClear, DotsAreOfEvents, DotsStandOnLanes, EachDeliveryHasOneArrow, EachEventHasOneDot, EachNodeHasItsLane, LanesAreApart, LanesAreOfDots, MarkedAreTheChain, MessagesComeIn, MessagesLeave, NoTwoDotsInOnePlace, NoneIsMarked, StepsAreThick, StepsGoOn, TimeRunsDown, TitlesAreOfTheDots};
+ghost use Rattle.hlc_diagram.specs.CrossLaws.{CrossesAreOfMessages, CrossesKeepClear, EachMessageHasItsCross, NothingElseChanges, OwnCrossesLieApart};
+ghost use Rattle.hlc_diagram.specs.Laws.{ArrowsAreOfDeliveries, ArrowsComeIn, ArrowsKeepClear, ArrowsLeave, BorderArrowsKeepClear, BorderArrowsTurnInRows, DotsAreOfEvents, DotsStandOnLanes, EachDeliveryHasOneArrow, EachEventHasOneDot, EachNodeHasItsLane, LanesAreApart, LanesAreOfDots, MarkedAreTheChain, MessagesComeIn, MessagesLeave, NoTwoDotsInOnePlace, NoneIsMarked, OwnArrowsLieApart, StepsAreThick, StepsGoOn, TimeRunsDown, TitlesAreOfTheDots};
 ghost use Rattle.hlc_diagram.specs.View.{ViewsAreAround};
 
 /// Each event of the range has exactly one dot, on the lane of its node and with its number, and there are no others. A later event
@@ -36,6 +36,14 @@ pub fn arrows_keep_clear_of_dots()
     ensures between_dots { ArrowsKeepClear }
     ensures at_borders { BorderArrowsKeepClear }
     ensures lanes { LanesAreApart }
+{}
+
+/// A message that a node sends to itself, be it delivered or not, has an arrow that has no more than points in common with those over a border at dots
+/// of the same lane. Of the arrows over one border no two turn in one row, so that their heads, which stand in these rows, don't meet.
+pub fn arrows_lie_apart()
+    ensures own { OwnArrowsLieApart }
+    ensures own_crosses { OwnCrossesLieApart }
+    ensures rows { BorderArrowsTurnInRows }
 {}
 
 /// Each delivery of the range whose send comes before it has an arrow from the upper border, with the number of the send, and

@@ -6,7 +6,7 @@ use Rattle.hlc_figures.specs.Figure.{arrow_of, band_of, dot_of, entering_of, lea
 use Rattle.hlc_figures.specs.Lanes.{lane_of}
 use Rattle.hlc_svg.specs.Frame.{x_of}
 use Rattle.hlc_figures.specs.Row.{Cell, row_cells, row_text}
-use Rattle.hlc_svg.specs.Shapes.{arrow_text, band_text, dot_text, end_text, lane_text, link_text, if_drawn}
+use Rattle.hlc_svg.specs.Shapes.{arrow_text, band_text, dot_text, end_text, lane_text, link_text, if_drawn, numbers_text}
 use Rattle.hlc_figures.specs.Title.{title_text}
 use Rattle.hlc_svg.specs.declared.arrow.Arrow.{Arrow}
 use Rattle.hlc_svg.specs.declared.dot.Dot.{Dot}
@@ -56,7 +56,7 @@ lane_below frame lanes node = record { node = record { 0 = node }; x = x_of fram
 abbrev pub named_lane_of : Content → Frame → (lanes : List ℕ) → ℕ → NamedLane
 named_lane_of c frame lanes node = record { lane = lane_below frame lanes node; whole_name = c.whole_name node; name = c.name node }
 
--- what of an event lies behind the lanes, what leads to it, and what stands before that
+-- what of an event lies behind the lanes, what leads to it, and what stands before that: so no line runs over a number
 unfoldable pub back_text : Figure → List ℕ
 back_text f = if_drawn band_text f.band
 
@@ -65,7 +65,7 @@ lines_text f =
     if_drawn link_text f.link ++ (if_drawn link_text f.stub ++ (if_drawn arrow_text f.arrow ++ (if_drawn end_text f.entering ++ if_drawn end_text f.leaving)))
 
 unfoldable pub front_text : Figure → List ℕ
-front_text f = dot_text f.dot f.title ++ row_text f.row
+front_text f = numbers_text f.entering f.leaving ++ (dot_text f.dot f.title ++ row_text f.row)
 
 abbrev pub layer_text : Layer → Figure → List ℕ
 layer_text Back = back_text

@@ -16,7 +16,7 @@ use crate::title::put_title;
 use hlc_stamp::{EventId, NodeId};
 use hlc_svg::dot::{Dot, put_dot_end, put_dot_start, put_ring};
 use hlc_svg::frame::{Frame, x, y};
-use hlc_svg::pieces::{put_arrow, put_band, put_end, put_link};
+use hlc_svg::pieces::{put_arrow, put_band, put_end, put_link, put_numbers};
 use hlc_svg::shapes::{Lane, put_lane_line, put_lane_start};
 use hlc_svg::text::put;
 use std::alloc::AllocError;
@@ -98,7 +98,7 @@ fn put_lines<S: Subject>(
     put_end(text, leaving(subject, scene, event))
 }
 
-// The dot and the row of an event.
+// The numbers at an event's arrows over a border, its dot and its row.
 fn put_front<S: Subject>(
     text: &mut String,
     subject: &S,
@@ -110,6 +110,11 @@ fn put_front<S: Subject>(
     ensures { OnOk result (string_bytes text.new ≡ string_bytes text.old
         ++ front_text (figure_of (S.content subject.now) scene.now.explained scene.now.frame scene.now.lanes.now event.0)) }
 {
+    let (entering, leaving) = (
+        entering(subject, scene, event),
+        leaving(subject, scene, event),
+    );
+    put_numbers(text, entering, leaving)?;
     put_dot(text, subject, dot(subject, scene, event))?;
     put_row(text, subject, scene, event, y(scene.frame, event))
 }

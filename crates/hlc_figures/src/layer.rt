@@ -5,6 +5,6 @@ pub enum Layer {
     Back,
     /// What leads to the events, and from them over the border.
     Lines,
-    /// The dots and the rows.
+    /// The numbers at arrows over a border, the dots and the rows.
     Front,
 }

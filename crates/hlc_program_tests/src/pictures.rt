@@ -6,14 +6,14 @@ use hlc_stamp::{EventId, NodeId};
 use std::alloc::Global;
 use std::process::Abort;
 
-// One arrow goes to the lane of node 2, and ends midway between the rows of events 1 and 2; one goes around the dots of node 0, and ends after
+// One arrow goes to the lane of node 2, and ends midway between the rows of events 1 and 2; one goes around the dots of node 0 at 22 pixels, and ends after
 // the last event, two pixels lower than midway. The message to node 2 failed to arrive three times.
 const ARROW: &str = "<polyline class=\"m\" points=\"61,84 149,101 171,101 259,118\"/>\n";
 
 const CROSSES: &str =
     "<polyline class=\"x\" points=\"61,84 149,101 171,101 259,101\"><title>the message of event 1 didn't reach node 2, 3 times</title></polyline>\n\
 <text class=\"y\" x=\"270\" y=\"105\">&#215;3</text>\n\
-<polyline class=\"x\" points=\"61,84 77,84 77,137 61,137\"><title>the message of event 1 didn't reach node 0</title></polyline>\n";
+<polyline class=\"x\" points=\"61,84 83,92 83,129 61,137\"><title>the message of event 1 didn't reach node 0</title></polyline>\n";
 
 // The third and the fourth aren't drawn: event 0 isn't, and node 3 isn't there. The last two are of the message of the first one.
 static UNDELIVERED: [Undelivered; 6] = [

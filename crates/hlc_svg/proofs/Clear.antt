@@ -7,9 +7,9 @@ use Rattle.std.proofs.lemmas.Bool.Decides.{nat_tests}
 use Rattle.std.proofs.lemmas.Nat.{le-div}
 use Rattle.hlc_svg.specs.Frame.{row_of, row_y, towards, x_of, y_of}
 use Rattle.hlc_svg.specs.Clear.{KeepsClear, LineKeepsClear, NeverRises}
-use Rattle.hlc_svg.specs.Path.{arrow_end, arrow_start, crossing_end, crossing_start, crossing_y, end_y, lane_at, lanes_of, path_from, path_of, way_around, way_of}
+use Rattle.hlc_svg.specs.Path.{around_distance, arrow_end, arrow_start, crossing_end, crossing_start, crossing_y, end_y, lane_at, lanes_of, path_from, path_of, way_around, way_of}
 use Rattle.hlc_svg.specs.declared.route.Route.{Route}
-use Rattle.hlc_svg.specs.declared.route.TheConstants.{AROUND}
+use Rattle.hlc_svg.specs.declared.route.TheConstants.{AROUND, FURTHER}
 use Rattle.hlc_svg.specs.declared.frame.Frame.{Frame}
 use Rattle.hlc_svg.specs.declared.frame.TheConstants.{ROW}
 use Rattle.hlc_svg.specs.declared.dot.Dot.{Dot}
@@ -84,8 +84,16 @@ module _ (frame : Frame) (dot : Dot) (node e : ℕ) (stands : StandsAt frame dot
         | inr below ↦ inr (inr (inr (omega arith, omega arith)))
       ]
 
+-- how far an arrow to the same lane goes
+pub around_far : (a : Route) → (a.frame.half + AROUND ≤ around_distance a) × (around_distance a ≤ a.frame.half + FURTHER)
+around_far a =
+    elim (cases_eq a.below 0) [
+      | inl none ↦ let test : (a.below == 0) ≡ true = grind (arith, nat_tests, none) in rw test (omega arith, omega arith)
+      | inr some ↦ let test : (a.below == 0) ≡ false = grind (arith, nat_tests, some) in rw test (omega arith, omega arith)
+    ]
+
 module _ (a : Route) (room : 2 * a.frame.half < a.frame.lane_distance)
-    (around : a.frame.half + AROUND + a.frame.half ≤ a.frame.lane_distance) (outer : a.frame.half ≤ a.reach)
+    (around : a.frame.half + FURTHER + a.frame.half ≤ a.frame.lane_distance) (outer : a.frame.half ≤ a.reach)
     (inner : a.reach + a.frame.half ≤ a.frame.lane_distance) where
   lanes_right : a.from.0 < a.to.0 → lanes_of a ≡ a.to.0 - a.from.0
   lanes_right lt = omega arith
@@ -174,9 +182,11 @@ module _ (a : Route) (room : 2 * a.frame.half < a.frame.lane_distance)
         let gap = a.from.0 in
         let wide : half ≤ half = omega arith in
         let narrow : half + half ≤ a.frame.lane_distance = omega arith in
-        let wide_around : half ≤ half + AROUND = omega arith in
+        let far = around_far a in
+        let wide_around : half ≤ around_distance a = omega (arith, far.0) in
+        let narrow_around : around_distance a + half ≤ a.frame.lane_distance = omega (arith, far.1, around) in
         let begins = right_of_lane a.frame a.from.0 a.to.0 gap half wide narrow (omega arith) refl in
-        let goes = right_of_lane a.frame a.from.0 a.to.0 gap (half + AROUND) wide_around around (omega arith) refl in
+        let goes = right_of_lane a.frame a.from.0 a.to.0 gap (around_distance a) wide_around narrow_around (omega arith) refl in
         let ends = right_of_lane a.frame a.to.0 a.from.0 gap a.reach outer inner (omega arith) (omega arith) in
         let line = line_in_gap a.frame dot node e stands gap in
         (line _ _ begins goes, (line _ _ goes goes, (line _ _ goes ends, tt)))

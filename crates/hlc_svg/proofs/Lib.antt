@@ -4,6 +4,7 @@ pub mod CutDigits
 pub mod CutLabels
 pub mod Harmless
 pub mod Labels
+pub mod Meeting
 pub mod Numerals
 pub mod PathTexts
 pub mod Reach

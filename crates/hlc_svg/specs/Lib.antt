@@ -5,6 +5,7 @@ pub mod Frame
 pub mod Label
 pub mod LabelLaws
 pub mod Letters
+pub mod Meeting
 pub mod Numbers
 pub mod Path
 pub mod Reach

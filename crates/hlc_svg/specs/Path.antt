@@ -2,7 +2,7 @@
 use Rattle.std.specs.Prelude.{ℕ, zero, suc, ◌+◌, ◌-◌, ◌*◌, ◌/◌, ◌==◌, ◌++◌, List, [], ◌∷◌, codes, decimal, if◌then◌else◌, nat_lt}
 use Rattle.std.specs.Int.{abs_diff}
 use Rattle.hlc_svg.specs.Frame.{beside, row_y, towards}
-use Rattle.hlc_svg.specs.declared.route.TheConstants.{AROUND}
+use Rattle.hlc_svg.specs.declared.route.TheConstants.{AROUND, FURTHER, SLANT}
 use Rattle.hlc_svg.specs.declared.route.Route.{Route}
 use Rattle.hlc_svg.specs.declared.frame.TheConstants.{ROW}
 use Rattle.hlc_svg.specs.declared.shapes.Border.{Border}
@@ -49,13 +49,17 @@ path_from a place (suc left) = crossing_start a place ∷ crossing_end a place �
 abbrev pub way_of : Route → List Point
 way_of a = arrow_start a ∷ path_from a 1 (lanes_of a - 1)
 
--- those of one to the same lane, which goes around the dots between
-abbrev pub around_x : Route → ℕ
-around_x a = towards a.frame a.from.0 a.to.0 (a.frame.half + AROUND)
+-- how far from its lane one to the same lane goes: further, if it ends below a row
+abbrev pub around_distance : Route → ℕ
+around_distance a = a.frame.half + (if a.below == 0 then AROUND else FURTHER)
 
+abbrev pub around_x : Route → ℕ
+around_x a = towards a.frame a.from.0 a.to.0 (around_distance a)
+
+-- the points of its line, which goes around the dots between: out and back at a slant, and in between straight down
 abbrev pub way_around : Route → List Point
 way_around a =
-    arrow_start a ∷ record { x = around_x a; y = row_y a.from_row } ∷ record { x = around_x a; y = end_y a } ∷ arrow_end a ∷ []
+    arrow_start a ∷ record { x = around_x a; y = row_y a.from_row + SLANT } ∷ record { x = around_x a; y = end_y a - SLANT } ∷ arrow_end a ∷ []
 
 -- the points of an arrow's line, which is straight between them
 abbrev pub path_of : Route → List Point

@@ -9,6 +9,8 @@ use Rattle.hlc_svg.specs.declared.look.Form.{Form}
 use Rattle.hlc_svg.specs.declared.look.Form.TheVariants.{Box, Dip, Hexagon, Peak, Pill, Slant}
 use Rattle.hlc_svg.specs.declared.look.Look.{Look}
 use Rattle.hlc_svg.specs.declared.shapes.Band.{Band}
+use Rattle.hlc_svg.specs.declared.shapes.Border.{Border}
+use Rattle.hlc_svg.specs.declared.shapes.Border.TheVariants.{Lower, Upper}
 use Rattle.hlc_svg.specs.declared.shapes.End.{End}
 use Rattle.hlc_svg.specs.declared.shapes.Lane.{Lane}
 use Rattle.hlc_svg.specs.declared.shapes.Link.{Link}
@@ -43,12 +45,24 @@ arrow_begins s = codes "<polyline class=\"" ++ ((if s.is_marked then codes "p" e
 abbrev pub arrow_text : Arrow → List ℕ
 arrow_text s = arrow_begins s ++ (points_text (path_of s.route) ++ codes "\"/>\n")
 
--- that of an arrow over a border, with the number of the event at its other end
+-- the class of an arrow over a border, by which the style gives it its head: what comes in has it at the dot, and what leaves in the same row, below
+-- where it turns
+abbrev pub end_class : Border → Bool → List ℕ
+end_class Upper false = codes "e"
+end_class Upper true = codes "q"
+end_class Lower false = codes "o"
+end_class Lower true = codes "s"
+
+-- the line of such an arrow
 abbrev pub end_text : End → List ℕ
 end_text s =
-    codes "<polyline class=\"" ++ ((if s.is_marked then codes "q" else codes "e") ++ (codes "\" points=\"" ++ (points_text (course_of s)
-    ++ (codes "\"/><text class=\"f\" x=\"" ++ (decimal s.number_x ++ (codes "\" y=\"" ++ (decimal (s.y - 3)
-    ++ (codes "\">" ++ (decimal s.number ++ codes "</text>\n")))))))))
+    codes "<polyline class=\"" ++ (end_class s.border s.is_marked ++ (codes "\" points=\"" ++ (points_text (course_of s) ++ codes "\"/>\n")))
+
+-- the number of the event at its other end
+abbrev pub number_text : End → List ℕ
+number_text s =
+    codes "<text class=\"f\" x=\"" ++ (decimal s.number_x ++ (codes "\" y=\"" ++ (decimal (s.y - 3)
+    ++ (codes "\">" ++ (decimal s.number ++ codes "</text>\n")))))
 
 -- how far something is from the middle of a dot: to the left of it or above it, or to the right or below
 pub data Coordinate : Type 0 where
@@ -146,3 +160,7 @@ dot_text s title = dot_begins s ++ (title ++ (ring_if s.look.is_ringed s.half ++
 abbrev pub if_drawn : {X : Type 0} → (X → List ℕ) → Option X → List ℕ
 if_drawn text None = []
 if_drawn text (Some x) = text x
+
+-- the numbers at the arrows over a border that come to a dot and leave it, if they are drawn
+abbrev pub numbers_text : (entering leaving : Option End) → List ℕ
+numbers_text entering leaving = if_drawn number_text entering ++ if_drawn number_text leaving

@@ -1,11 +1,11 @@
 // Pieces of a picture that are drawn if they are there.
 
 ghost use Rattle.std.specs.Prelude.{◌≡◌, ◌++◌, ◌<◌, OnOk, string_bytes};
-ghost use Rattle.hlc_svg.specs.Shapes.{if_drawn, arrow_text, band_text, end_text, link_text};
+ghost use Rattle.hlc_svg.specs.Shapes.{if_drawn, arrow_text, band_text, end_text, link_text, number_text, numbers_text};
 
 use crate::arrow::{Arrow, put_path};
 use crate::frame::ROW;
-use crate::shapes::{Band, End, Link};
+use crate::shapes::{Band, End, Link, Numbered};
 use std::alloc::AllocError;
 
 /// Adds what lies behind a row.
@@ -52,4 +52,27 @@ pub fn put_end(text: &mut String, end: Option<End>) -> Result<(), AllocError>
         Some(end) => write!(text, "{end}"),
         None => Ok(()),
     }
+}
+
+// Adds the number at an arrow over a border.
+fn put_number(text: &mut String, end: Option<End>) -> Result<(), AllocError>
+    ensures { OnOk result (string_bytes text.new ≡ string_bytes text.old ++ if_drawn number_text end) }
+{
+    let Some(end) = end else {
+        return Ok(());
+    };
+    let numbered = Numbered { end };
+    write!(text, "{numbered}")
+}
+
+/// Adds the numbers at the arrows over a border that come to a dot and leave it.
+pub fn put_numbers(
+    text: &mut String,
+    entering: Option<End>,
+    leaving: Option<End>,
+) -> Result<(), AllocError>
+    ensures { OnOk result (string_bytes text.new ≡ string_bytes text.old ++ numbers_text entering leaving) }
+{
+    put_number(text, entering)?;
+    put_number(text, leaving)
 }

@@ -1,7 +1,7 @@
 // Where arrows run.
 
 ghost use Rattle.std.specs.Prelude.{◌≡◌, ◌++◌, ◌<◌, OnOk, string_bytes};
-ghost use Rattle.hlc_svg.specs.Path.{around_x, arrow_end, arrow_start, crossing_text, crossing_y, end_y, lane_at, lanes_of, path_of, points_text, way_around, way_of};
+ghost use Rattle.hlc_svg.specs.Path.{around_distance, around_x, arrow_end, arrow_start, crossing_text, crossing_y, end_y, lane_at, lanes_of, path_of, points_text, way_around, way_of};
 
 use crate::frame::{Frame, LaneId, ROW, beside, row_y, towards};
 use crate::shapes::Point;
@@ -9,6 +9,13 @@ use std::alloc::AllocError;
 
 /// How far an arrow to the same lane keeps from the dots there: its head has room between, beside a ring too.
 pub const AROUND: u16 = 16;
+
+/// How far one keeps from them that ends below a row: a bit further, so that it doesn't lie on one that ends at a dot.
+pub const FURTHER: u16 = 22;
+
+// How far an arrow to the same lane has fallen by where it is furthest from the dots, and still falls from there on: at a slant, since
+// arrows over a border run along the rows of dots.
+pub(crate) const SLANT: u8 = 8;
 
 /// Where an arrow runs: from a dot to beside another lane.
 #[derive(Clone, Copy)]
@@ -103,16 +110,19 @@ fn put_way(text: &mut String, route: Route) -> Result<(), AllocError>
     write!(text, " {end}")
 }
 
-// How far to the right an arrow to the same lane goes.
+// How far to the right of its lane an arrow to the same lane goes.
+fn around_distance(route: Route) -> u16
+    ensures { result ≡ around_distance route }
+{
+    let beyond = if route.below == 0 { AROUND } else { FURTHER };
+    u16::from(route.frame.half) + beyond
+}
+
+// Where that is.
 fn around_x(route: Route) -> u64
     ensures { result ≡ around_x route }
 {
-    towards(
-        route.frame,
-        route.from,
-        route.to,
-        u16::from(route.frame.half) + AROUND,
-    )
+    towards(route.frame, route.from, route.to, around_distance(route))
 }
 
 // The points of an arrow to the same lane, around the dots between.
@@ -123,9 +133,12 @@ fn put_way_around(text: &mut String, route: Route) -> Result<(), AllocError>
     let (out, back) = (
         Point {
             x,
-            y: row_y(route.from_row),
+            y: row_y(route.from_row) + u64::from(SLANT),
         },
-        Point { x, y: end_y(route) },
+        Point {
+            x,
+            y: end_y(route).saturating_sub(u64::from(SLANT)),
+        },
     );
     write!(text, "{start} {out} {back} {end}")
 }

@@ -2,7 +2,7 @@
 
 ghost use Rattle.std.specs.Prelude.{◌≡◌, ◌++◌, OnOk, Some, string_bytes};
 ghost use Rattle.hlc_svg.specs.Path.{course_of, point_text, points_text};
-ghost use Rattle.hlc_svg.specs.Shapes.{end_text, lane_line, name_begins};
+ghost use Rattle.hlc_svg.specs.Shapes.{end_class, end_text, number_text, lane_line, name_begins};
 
 use crate::frame::{HEADING_Y, TOP};
 use hlc_stamp::{EventId, NodeId};
@@ -110,17 +110,44 @@ impl fmt::Display for Course {
     }
 }
 
+// The class of an arrow over a border: what leaves has its head where it turns, and what comes in at the dot.
+fn end_class(border: Border, is_marked: bool) -> &'static str
+    ensures { result.now ≡ end_class border is_marked }
+{
+    match (border, is_marked) {
+        (Border::Upper, false) => "e",
+        (Border::Upper, true) => "q",
+        (Border::Lower, false) => "o",
+        (Border::Lower, true) => "s",
+    }
+}
+
 impl fmt::Display for End {
     ghost output = { λ s. Some (end_text s) };
 
     fn fmt<W: fmt::Write>(&self, f: &mut fmt::Formatter<W>) -> fmt::Result {
-        let class = if self.is_marked { "q" } else { "e" };
-        let (number_x, number_y, number) = (self.number_x, self.y.saturating_sub(3), self.number);
+        let class = end_class(self.border, self.is_marked);
         let course = Course { end: *self };
-        write!(
-            f,
-            "<polyline class=\"{class}\" points=\"{course}\"/><text class=\"f\" x=\"{number_x}\" y=\"{number_y}\">{number}</text>\n"
-        )
+        write!(f, "<polyline class=\"{class}\" points=\"{course}\"/>\n")
+    }
+}
+
+// The number at such an arrow.
+#[derive(Clone, Copy)]
+pub(crate) struct Numbered {
+    pub(crate) end: End,
+}
+
+impl fmt::Display for Numbered {
+    ghost output = { λ numbered. Some (number_text numbered.end) };
+
+    fn fmt<W: fmt::Write>(&self, f: &mut fmt::Formatter<W>) -> fmt::Result {
+        let (x, y, number) = (
+            self.end.number_x,
+            self.end.y.saturating_sub(3),
+            self.end.number,
+        );
+        write!(f, "<text class=\"f\" x=\"{x}\" y=\"{y}\">{number}</text>\n")
     }
 }
 

@@ -7,7 +7,7 @@ const FORMS = {
   script: [['g .pill', 'an event']],
 };
 const LINES = [
-  ['.m', 'a message'], ['.e', 'a message from or to an event that is not drawn'], ['.x', 'a message that did not arrive'], ['.p, .v', 'the chain that explains a stamp'],
+  ['.m', 'a message'], ['.e, .o', 'a message from or to an event that is not drawn'], ['.x', 'a message that did not arrive'], ['.p, .v', 'the chain that explains a stamp'],
 ];
 
 function sample(part, text) {
@@ -24,7 +24,9 @@ function dotSample(shape) {
   return dot;
 }
 
-const lineSample = line => svgElement('polyline', { class: line.classList[0] === 'v' ? 'p' : line.classList[0], points: '-16,0 14,0' });
+// (a step along a lane is shown as one by a message, and what leaves as what comes in, which has its head at the end)
+const SAMPLES = { v: 'p', o: 'e' };
+const lineSample = line => svgElement('polyline', { class: SAMPLES[line.classList[0]] ?? line.classList[0], points: '-16,0 14,0' });
 
 function showLegend() {
   const svg = diagram?.svg, items = [];
