@@ -147,7 +147,7 @@ fn expect_texts_of_lines(rt: &impl Abort, alloc: Global) {
             (LineFault::Output, "--output takes `csv`, `json` or `text`"),
             (
                 LineFault::Question,
-                "--ask takes a question of a log: explain,LINE, check,LINE,LINE.., relation,LINE,LINE, influenced,LINE, drift,NODE, claimed,LINE, event,LINE, why,LINE,LINE, tainted,LINE or first,NODE,RULE",
+                "--ask takes a question of a log: explain,LINE, check,LINE,LINE.., relation,LINE,LINE, influenced,LINE, drift,NODE, claimed,LINE, event,LINE, why,LINE,LINE, tainted,LINE or first,NODE,RULE; or `-`, if questions follow the log",
             ),
             (
                 LineFault::Sign("packed"),
@@ -212,7 +212,7 @@ fn expect_texts_of_lines(rt: &impl Abort, alloc: Global) {
             ),
             (
                 Fault::Line(LineFault::Question),
-                "--ask takes a question of a log: explain,LINE, check,LINE,LINE.., relation,LINE,LINE, influenced,LINE, drift,NODE, claimed,LINE, event,LINE, why,LINE,LINE, tainted,LINE or first,NODE,RULE",
+                "--ask takes a question of a log: explain,LINE, check,LINE,LINE.., relation,LINE,LINE, influenced,LINE, drift,NODE, claimed,LINE, event,LINE, why,LINE,LINE, tainted,LINE or first,NODE,RULE; or `-`, if questions follow the log",
             ),
             (
                 Fault::Line(LineFault::Part(PartMistake::RowsAlone)),
