@@ -1,5 +1,5 @@
 -- The parts of an input: a log, and questions that follow it.
-use Rattle.std.proofs.Common.{◌≡◌, ◌∙◌, ◌==◌, ◌<◌, ◌≤◌, ◌+◌, ◌||◌, ◌++◌, ◌∷◌, ℕ, Bool, true, false, List, [], None, Option, Some, Result, Ok, Err, ap, append-nil, append_assoc, arith, drop, filter, length, length-append, not, refl, subst, suc, sym, take}
+use Rattle.std.proofs.Common.{◌≡◌, ◌∙◌, ◌==◌, ◌<◌, ◌+◌, ◌++◌, ◌∷◌, ℕ, Bool, true, false, List, [], None, Option, Some, Result, Ok, Err, ap, append-nil, append_assoc, arith, drop, length, not, refl, subst, suc, sym, take}
 use Rattle.std.specs.Prelude.{IfOk, IfSome, OnOk, if◌then◌else◌, slice_get}
 use Rattle.std.specs.List.{concat, position_or_len}
 use Rattle.std.specs.Io.BufRead.{drop_through, take_through}
