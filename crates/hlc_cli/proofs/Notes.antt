@@ -34,6 +34,7 @@ command_has_status command.BrokenStamps zero = omega arith
 command_has_status command.OverLimit zero = omega arith
 command_has_status command.BadLog zero = omega arith
 command_has_status command.EmptyLog zero = omega arith
+command_has_status (command.NoQuestion line) zero = omega arith
 command_has_status command.NoEvent zero = omega arith
 command_has_status command.Settings zero = omega arith
 command_has_status (command.Mismatch node) zero = omega arith

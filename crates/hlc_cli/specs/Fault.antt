@@ -11,13 +11,14 @@ use Rattle.hlc_command_line.specs.declared.line_fault.LineFault.TheVariants as l
 use Rattle.hlc_cli.specs.declared.fault.Fault.{Fault}
 use Rattle.hlc_cli.specs.declared.fault.Fault.TheVariants as stop
 
--- the exit status of a command that stopped: 3 if stamps of a log are broken or over the limit, 4 if the input is no log, or none with events, 1 for
--- any other fault
+-- the exit status of a command that stopped: 3 if stamps of a log are broken or over the limit, 4 if the input is no log, or none with events, or a line
+-- that follows a log in it asks nothing, 1 for any other fault
 abbrev pub command_status : CommandFault → ℕ
 command_status command.BrokenStamps = 3
 command_status command.OverLimit = 3
 command_status command.BadLog = 4
 command_status command.EmptyLog = 4
+command_status (command.NoQuestion line) = 4
 command_status command.NoEvent = 1
 command_status command.Settings = 1
 command_status (command.Mismatch node) = 1
@@ -70,7 +71,7 @@ line_at_end (Err fault) = line_of fault
 abbrev pub IsToldOf : (line : Option (List ℕ)) → (before after : Option (List ℕ)) → Type 0
 IsToldOf line before after = IfSome line (Appends before after)
 
--- the input failed: it could not be read, or has too many records
+-- the input failed: it could not be read, or has too many records, or what follows a log there asks nothing
 abbrev pub IsOfInput : Fault → Type 0
 IsOfInput (stop.Command fault) = IsUnread fault
 IsOfInput _ = ⊥

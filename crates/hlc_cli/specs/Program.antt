@@ -23,6 +23,7 @@ use Rattle.hlc_script_commands.specs.NoEvents.{IsNoteOn}
 use Rattle.hlc_script_commands.specs.Traced.{IsScriptTraced}
 use Rattle.hlc_log_commands.specs.Audited.{IsAuditPassed, IsAuditedBut, IsLogNote}
 use Rattle.hlc_log_commands.specs.DrawnLog.{IsLogDrawnBut, IsLogDrawnWhole}
+use Rattle.hlc_log_commands.specs.Following.{HoldFor, HoldsOf}
 use Rattle.hlc_log_commands.specs.LogVectors.{HasVectors}
 use Rattle.hlc_log_commands.specs.Records.{records_in}
 use Rattle.hlc_log_commands.specs.Unopened.{IsUnopened}
@@ -50,7 +51,8 @@ IsDone input before after (order.Run settings) = IsScriptAnswered settings input
 IsDone input before after (order.Draw settings part) = IsDrawnWhole settings part input before after
 IsDone input before after (order.Trace settings vector) = IsScriptTraced settings vector input before after
 IsDone input before after order.Judge = IsJudged MAX_RECORDS input before after
-IsDone input before after (order.Audit options asked json) = IsAuditPassed options asked.items (records_in json input) before after
+IsDone input before after (order.Audit options asked json) =
+    HoldFor asked.questions.items asked.questions_follow input (λ questions log. IsAuditPassed options questions (records_in json log) before after)
 IsDone input before after (order.Watch options json) = IsWatchPassed options (records_in json input) before after
 IsDone input before after (order.DrawLog options json) = IsLogDrawnWhole options (records_in json input) before after
 IsDone input before after (order.Vectors records json) = HasVectors records (records_in json input) before after
@@ -60,7 +62,8 @@ IsDone input before after (order.Threads nodes steps seed limit) = IsPlayed node
 -- what the order asks for was done but for this fault, of which the answer tells
 abbrev pub IsDoneBut : CommandFault → (input before after : Option (List ℕ)) → Order → Type 0
 IsDoneBut fault input before after (order.Draw settings part) = IsDrawnBut fault settings part input before after
-IsDoneBut fault input before after (order.Audit options asked json) = IsAuditedBut fault options asked.items (records_in json input) before after
+IsDoneBut fault input before after (order.Audit options asked json) =
+    HoldFor asked.questions.items asked.questions_follow input (λ questions log. IsAuditedBut fault options questions (records_in json log) before after)
 IsDoneBut fault input before after (order.Watch options json) = IsWatchedBut fault options (records_in json input) before after
 IsDoneBut fault input before after (order.DrawLog options json) = IsLogDrawnBut fault options (records_in json input) before after
 IsDoneBut fault input before after (order.Vectors records json) = IsUnopened MAX_CAPACITY fault records (records_in json input) before after
@@ -71,7 +74,7 @@ IsDoneBut fault input before after _ = ⊥
 abbrev pub IsNoteFor : (input : Option (List ℕ)) → Option NoEvents → Order → Type 0
 IsNoteFor input note (order.Draw settings part) = IsNoteOn settings input note
 IsNoteFor input note (order.Trace settings vector) = IsNoteOn settings input note
-IsNoteFor input note (order.Audit options asked json) = IsLogNote options (records_in json input) note
+IsNoteFor input note (order.Audit options asked json) = HoldsOf asked.questions_follow input (λ log. IsLogNote options (records_in json log) note)
 IsNoteFor input note (order.Watch options json) = IsWatchNote options (records_in json input) note
 IsNoteFor input note _ = note ≡ None
 

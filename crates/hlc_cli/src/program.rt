@@ -16,7 +16,7 @@ use clap::error::ErrorKind;
 use hlc_command_fault::{CommandFault, NoEvents};
 use hlc_command_line::{Hint, LineFault, Order, hint_for, order, sign_hint};
 use hlc_csv::RecordsFault;
-use hlc_log_commands::{NameKey, audit_log, draw_log, vectors_of_log};
+use hlc_log_commands::{NameKey, audit_input, draw_log, vectors_of_log};
 use hlc_script_commands::{draw_script, print_storm, run_script, trace_script};
 use hlc_threads_command::play;
 use hlc_trace::judge_run;
@@ -115,7 +115,7 @@ fn carry_out<R: AllocGlobal + Threads + Wait + Sync, I: Read + Drop, O: Write>(
             options,
             asked,
             json,
-        } => audit_log(alloc, reader, writer, options, &asked, json, key),
+        } => audit_input(alloc, reader, writer, options, asked, json, key),
         Order::Watch { options, json } => { watch_log(alloc, reader, writer, options, json, key) }
         Order::DrawLog { options, json } => {
             unnoted(draw_log(alloc, reader, writer, options, json, key))
@@ -236,7 +236,7 @@ fn command_status(fault: CommandFault) -> u8
 {
     match fault {
         CommandFault::BrokenStamps | CommandFault::OverLimit => 3,
-        CommandFault::BadLog | CommandFault::EmptyLog => 4,
+        CommandFault::BadLog | CommandFault::EmptyLog | CommandFault::NoQuestion { .. } => 4,
         CommandFault::NoEvent
         | CommandFault::Settings
         | CommandFault::Mismatch(_)
@@ -324,7 +324,7 @@ fn end<E: Write>(
 /// Performs what a command line asks for, given its arguments, the first of which is the program's name, and tells how that ended: with
 /// status 0 if it was done, 1 for a fault, which a line on `errors` reports, 2 for a mistake in the arguments, which clap's text or a
 /// line on `errors` reports, 3 for a log whose stamps are broken or over the limit, and 4 for an input that is no log, or, in a strict audit or watch,
-/// one without events, each with its line. At status 0 a line on `errors` says so if a script that was drawn or traced has records, and none of them is
+/// one without events, or in which a line that follows a log asks nothing, each with its line. At status 0 a line on `errors` says so if a script that was drawn or traced has records, and none of them is
 /// an event, or if a log that was audited or watched has none. Where the line can't be written, the status is the same.
 pub fn perform<
     R: AllocGlobal + Threads + Wait + RandomSource + Sync,

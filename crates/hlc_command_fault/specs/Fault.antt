@@ -29,13 +29,16 @@ fault_text stop.Settings = codes "bad settings"
 fault_text (stop.Mismatch node) = codes "log mismatch at node " ++ decimal node.0
 fault_text (stop.GateShut node) = codes "gate shut at node " ++ decimal node.0
 fault_text (stop.LogTooLong most) = codes "too many records: a log has at most " ++ decimal most
+fault_text (stop.NoQuestion line) =
+    codes "line " ++ decimal line ++ codes " below `==> questions <==` asks nothing; a question of a log is explain,LINE, check,LINE,LINE.., relation,LINE,LINE, influenced,LINE, drift,NODE, claimed,LINE, event,LINE, why,LINE,LINE, tainted,LINE or first,NODE,RULE"
 fault_text (stop.Records fault) = records_fault_text fault
 
--- the input failed: it could not be read, or has too many records
+-- the input failed: it could not be read, or has too many records, or what follows a log there asks nothing
 abbrev pub IsOfInput : CommandFault → Type 0
 IsOfInput (stop.Records records.Read) = ⊤
 IsOfInput (stop.Records records.TooLong) = ⊤
 IsOfInput (stop.LogTooLong most) = ⊤
+IsOfInput (stop.NoQuestion line) = ⊤
 IsOfInput _ = ⊥
 
 -- the whole answer was written, and tells of the fault: an event is missing, the input is no log, or a log without events, or stamps in it are broken

@@ -14,6 +14,11 @@ pub enum CommandFault {
     NoEvent,
     /// The input is no log. The row that says why was written.
     BadLog,
+    /// Of the questions that follow a log, this line, counted from 1 below the one that says that they follow, asks nothing. Nothing was written.
+    NoQuestion {
+        /// The line.
+        line: u64,
+    },
     /// The log has no event, and its audit is strict. What is told of the log was written.
     EmptyLog,
     /// In the log a stamp is behind or not above another one, or a message carried another stamp than its send. What is told of the log was written.
@@ -48,6 +53,12 @@ impl fmt::Display for CommandFault {
             CommandFault::GateShut(node) => return write!(f, "gate shut at node {}", node.0),
             CommandFault::LogTooLong { most } => {
                 return write!(f, "too many records: a log has at most {most}");
+            }
+            CommandFault::NoQuestion { line } => {
+                return write!(
+                    f,
+                    "line {line} below `==> questions <==` asks nothing; a question of a log is explain,LINE, check,LINE,LINE.., relation,LINE,LINE, influenced,LINE, drift,NODE, claimed,LINE, event,LINE, why,LINE,LINE, tainted,LINE or first,NODE,RULE"
+                );
             }
             CommandFault::Records(cause) => return fmt::Display::fmt(&cause, f),
             CommandFault::NoEvent => "no such event",

@@ -18,7 +18,7 @@ use Rattle.hlc_log_text.specs.declared.log_rules.LogRules.{LogRules}
 use Rattle.hlc_log_text.specs.declared.stamp_form.StampForm.{StampForm}
 use Rattle.hlc_log_text.specs.declared.stamp_form.StampForm.TheVariants.{Dotted, Packed, Pair}
 use Rattle.hlc_json_lines.specs.Rules.{field_of_text, kind_of_text}
-use Rattle.hlc_command_line.specs.Asked.{AreAsked, AsksNothing, ask, texts_of_option}
+use Rattle.hlc_command_line.specs.Asked.{AreBeside, AsksNeither, ask, texts_of_option}
 use Rattle.hlc_command_line.specs.JsonOptions.{IsJsonOf, IsSyntaxOf, LacksMeaning, field, is_json_given, jsonl, kind}
 use Rattle.hlc_command_line.specs.LineOption.{HaveOptions, HaveUnlessSigned, IsFlagOf, IsOtherWord, IsWordOf, LineOption, flag, many, number, word}
 use Rattle.hlc_command_line.specs.LogLine.{IsLineOption, TellPart, TellsNoLine, around_line, explained_line, first_line, last_line}
@@ -415,7 +415,7 @@ IsOrderOf name rows (order.Draw settings part) = (name ≡ codes "draw") × AreS
 IsOrderOf name rows (order.Trace settings v) = (name ≡ codes "trace") × AreSettings rows settings × IsFlagOf rows vector v
 IsOrderOf name rows order.Judge = name ≡ codes "judge"
 IsOrderOf name rows (order.Audit options asked json) =
-    (name ≡ codes "audit") × AreAuditOptions rows options × AreAsked (texts_of_option rows ask) asked.items × IsJsonOf rows json
+    (name ≡ codes "audit") × AreAuditOptions rows options × AreBeside (texts_of_option rows ask) asked × IsJsonOf rows json
 IsOrderOf name rows (order.Watch options json) = (name ≡ codes "watch") × AreWatchOptions rows options × IsJsonOf rows json
 IsOrderOf name rows (order.DrawLog options json) = (name ≡ codes "draw-log") × AreDrawLogOptions rows options × IsJsonOf rows json
 IsOrderOf name rows (order.Vectors records json) = (name ≡ codes "vectors") × AreLogRules rows records × IsJsonOf rows json
@@ -426,9 +426,10 @@ IsOrderOf name rows (order.Threads n k s l) = (name ≡ codes "threads") × AreS
 abbrev pub IsOrderFound : Option (Text × List Row) → Order → Type 0
 IsOrderFound found o = (name : Text) × (rows : List Row) × (found ≡ Some (name, rows)) × IsOrderOf name rows o
 
--- what of the options of `audit` no order says: no rules say how its records are read, or an `--ask` asks nothing, or `--output` has a word that is none
+-- what of the options of `audit` no order says: no rules say how its records are read, or an `--ask` asks nothing and isn't `-`, or `--output` has a word
+-- that is none
 abbrev pub IsAuditMistake : List Row → LineFault → Type 0
-IsAuditMistake rows fault.Question = AsksNothing (texts_of_option rows ask)
+IsAuditMistake rows fault.Question = AsksNeither (texts_of_option rows ask)
 IsAuditMistake rows fault.Output = IsNoOutput rows
 IsAuditMistake rows f = IsRulesMistake rows f
 

@@ -149,6 +149,8 @@ Questions, as records of the log or each by `--ask`, are answered in place of th
   claimed,LINE                       the claimed stamp, and the lines by which its L came
   event,LINE                         what is known of the event
   first,NODE,RULE                    the line of NODE's first event with a cause of this RULE: `behind`, `not-above`, `ahead` or `carried`
+With `--ask -` the input is read to its end first, and each line below the first one that is exactly `==> questions <==` asks one, too; blank lines
+ask none. If one asks nothing, nothing is answered, and the status is 4.
 
 Example:
   printf 'local,a,10,10,0\\nlocal,a,10,11,0\\n' | hlc audit

@@ -4,8 +4,8 @@
 //! numbers are within their limits, so whoever carries it out needn't test them again.
 //!
 //! - `order` reads the arguments.
-//! - `Order` is what they ask for, one variant for each subcommand; `AuditOptions` is what `audit` is given, `WatchOptions` what `watch` is, and
-//!   `DrawLogOptions` what `draw-log` is, with how lines of JSON are read, if the log has them. `DrawnPart` says what of a history or a log is drawn, whatever
+//! - `Order` is what they ask for, one variant for each subcommand; `AuditOptions` is what `audit` is given, beside what it is asked
+//!   (`AskedBeside`), `WatchOptions` what `watch` is, and `DrawLogOptions` what `draw-log` is, with how lines of JSON are read, if the log has them. `DrawnPart` says what of a history or a log is drawn, whatever
 //!   names its events: of a history they are named by their numbers, of a log by their lines (`LogLine`).
 //! - `LineFault` is a mistake in the arguments, or a text that they ask for, such as the help.
 //! - `hint_for` says what else the user is told of arguments that are refused: a range of numbers, or where a log is read from.
@@ -62,5 +62,5 @@ pub use json_options::{add_fields, add_kinds};
 pub use line::order;
 pub use line_fault::{LineFault, PartMistake, RecordsMistake};
 pub use line_order::{
-    AuditOptions, DrawLogOptions, LogLine, Order, OutputForm, USUAL_KEPT, WatchOptions,
+    AskedBeside, AuditOptions, DrawLogOptions, LogLine, Order, OutputForm, USUAL_KEPT, WatchOptions,
 };

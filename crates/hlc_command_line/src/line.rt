@@ -6,7 +6,7 @@ ghost use Rattle.clap.specs.Walk.{texts};
 ghost use Rattle.hlc_command_line.specs.LineOption.{HaveOptions};
 ghost use Rattle.hlc_command_line.specs.Line.{HasOptions, IsAbove, IsAuditMistake, IsEntered, IsMistakeOf, IsOrderFound, IsOrderOf, IsRefusal, IsRefusedFound, IsTurned, UnlessMemory, draw_log_options, draw_options, line_app, line_faults, log_options, record_options, watch_options};
 
-use crate::asked::asked_questions;
+use crate::asked::asked_beside;
 use crate::cluster_options::{Seeded, seeded_numbers, settings};
 use crate::drawn_part::{DrawnPart, DrawnRows};
 use crate::history_options::history_part;
@@ -42,7 +42,7 @@ fn audit_order(alloc: Global, options: &ArgMatches<'_>) -> Result<Order, LineFau
     ensures mistaken { IfErr result (UnlessMemory (IsAuditMistake (rows_of (found_of options.now)))) }
 {
     let audit = audit_options(options)?;
-    let asked = asked_questions(alloc, options)?;
+    let asked = asked_beside(alloc, options)?;
     let json = json_rules(alloc, options)?;
     Ok(Order::Audit {
         options: audit,

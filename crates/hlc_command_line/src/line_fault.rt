@@ -136,7 +136,7 @@ impl fmt::Display for LineFault {
             LineFault::Receives => "--receives takes `tick`, `merge` or `merge-clock`",
             LineFault::Output => "--output takes `csv`, `json` or `text`",
             LineFault::Question =>
-                "--ask takes a question of a log: explain,LINE, check,LINE,LINE.., relation,LINE,LINE, influenced,LINE, drift,NODE, claimed,LINE, event,LINE, why,LINE,LINE, tainted,LINE or first,NODE,RULE",
+                "--ask takes a question of a log: explain,LINE, check,LINE,LINE.., relation,LINE,LINE, influenced,LINE, drift,NODE, claimed,LINE, event,LINE, why,LINE,LINE, tainted,LINE or first,NODE,RULE; or `-`, if questions follow the log",
             LineFault::Memory => "out of memory",
         };
         f.write_str(text)

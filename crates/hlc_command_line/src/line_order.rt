@@ -33,6 +33,15 @@ pub struct AuditOptions {
     pub output: OutputForm,
 }
 
+/// What is asked beside a log that is audited.
+#[derive(Debug, Drop)]
+pub struct AskedBeside {
+    /// The questions that the command line asks.
+    pub questions: Vec<LogQuestion>,
+    /// Whether further ones follow the log in the input.
+    pub questions_follow: bool,
+}
+
 /// How many messages a watch remembers if no other number is given.
 pub const USUAL_KEPT: u32 = 1_000_000;
 
@@ -96,7 +105,7 @@ pub enum Order {
         /// How it is read and audited.
         options: AuditOptions,
         /// What is asked beside the log.
-        asked: Vec<LogQuestion>,
+        asked: AskedBeside,
         /// How its lines are read, if they are JSON.
         json: Option<JsonRules>,
     },

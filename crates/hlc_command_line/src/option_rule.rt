@@ -244,7 +244,7 @@ pub(crate) const AUDIT_LIMIT: OptionRule = OptionRule {
 
 pub(crate) const ASK: OptionRule = OptionRule {
     name: "ask",
-    text: "Answers a question about the log, in the words of a record; it may be given more than once",
+    text: "Answers a question about the log, in the words of a record; it may be given more than once. With `-` further ones follow the log",
     takes: Takes::Many {
         value: "QUESTION",
         parser: ValueParser::String,

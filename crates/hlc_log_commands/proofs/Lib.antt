@@ -1,1 +1,2 @@
 mod DrawnLogs
+mod FollowingFacts

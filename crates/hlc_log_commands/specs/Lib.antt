@@ -1,5 +1,6 @@
 pub mod Audited
 pub mod DrawnLog
+pub mod Following
 pub mod LogVectors
 pub mod PartLines
 pub mod Records

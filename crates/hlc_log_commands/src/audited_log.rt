@@ -7,6 +7,7 @@ ghost use Rattle.hlc_log_audit.specs.Audit.{TellsEvents};
 ghost use Rattle.hlc_log_groups.specs.GroupRows.{IsGroupedAudit};
 ghost use Rattle.hlc_command_fault.specs.Fault.{IsOfAnswer, IsOfInput};
 ghost use Rattle.hlc_log_commands.specs.Audited.{IsAuditPassed, IsAuditedBut, IsAuditedBy, IsLogNote, audit_stop, log_note, rules_of, told_of};
+ghost use Rattle.hlc_log_commands.specs.Following.{IsOfQuestions};
 ghost use Rattle.hlc_log_commands.specs.Records.{IsLengthTold, records_in};
 
 use hlc_audit_forms::{write_json, write_text};
@@ -173,6 +174,7 @@ pub fn audit_log<I: Read + Drop, O: Write>(
         (records_in json (I.remaining reader)) (O.contents writer.old) (O.contents writer.new)) }
     ensures unread { IfErr result (λ fault. IsOfInput fault → writer.new ≡ writer.old) }
     ensures too_long { IfErr result (IsLengthTold MAX_CAPACITY options.records (records_in json (I.remaining reader))) }
+    ensures unasked { IfErr result (λ fault. ¬ IsOfQuestions fault) }
 {
     let audited = match audit_by(alloc, reader, writer, options, asked, json, key) {
         Ok(audited) => audited,

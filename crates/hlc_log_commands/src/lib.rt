@@ -2,8 +2,9 @@
 //!
 //! Each is a function over a reader and a writer, and answers with the fault that stopped it.
 //!
-//! - `audit_log` audits a log, as `hlc audit` does, and answers what is asked beside it; `audit_by` writes the same, and leaves it to the caller
-//!   what the outcome means.
+//! - `audit_input` audits the log in an input, as `hlc audit` does, and answers what is asked beside it. Questions may follow the log in the input,
+//!   below a line that says so: `input_in_parts` states how it is cut there. `audit_log` audits an input that is all log; `audit_by` writes the same,
+//!   and leaves it to the caller what the outcome means.
 //! - `draw_log` draws a part of it, as `hlc draw-log` does, and `draw_log_up_to` one of a log of at most so many records. Where a part is named by
 //!   lines in files, the log that was read says which lines these are.
 //! - `vectors_of_log` writes it with the vectors of its events, as `hlc vectors` does.
@@ -12,14 +13,18 @@
 //! does. Nothing is written before all of a log was read.
 #![tactic(auto)]
 
+mod audited_input;
 mod audited_log;
 mod drawn_log;
+mod following;
 mod log_with_vectors;
 mod opening;
 mod part_lines;
 
+pub use audited_input::audit_input;
 pub use audited_log::{audit_by, audit_log};
 pub use drawn_log::{draw_log, draw_log_up_to};
+pub use following::input_in_parts;
 pub use hlc_command_fault::CommandFault;
 pub use hlc_log_text::NameKey;
 pub use log_with_vectors::vectors_of_log;

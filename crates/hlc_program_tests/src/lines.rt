@@ -6,7 +6,7 @@ use hlc_command_line::{LineFault, order};
 use std::process::Abort;
 
 // Lines with their orders, as `Debug` shows them. A question may be asked more than once; each value of `--ask` is one record.
-static ORDERS: [(&str, &str); 36] = [
+static ORDERS: [(&str, &str); 37] = [
     (
         "hlc run --nodes 2 --capacity 1",
         "Run(Settings { nodes: 2, capacity: 1, limit: None })",
@@ -66,31 +66,31 @@ static ORDERS: [(&str, &str); 36] = [
     ),
     (
         "hlc audit",
-        "Audit { options: AuditOptions { records: LogRules { syntax: Csv, form: Pair, units: None, tolerance: 0, receives: Tick, unsent_local: false, resent: None, faults: First }, strict: false, limit: None, report: false, groups: false, output: Csv }, asked: [], json: None }",
+        "Audit { options: AuditOptions { records: LogRules { syntax: Csv, form: Pair, units: None, tolerance: 0, receives: Tick, unsent_local: false, resent: None, faults: First }, strict: false, limit: None, report: false, groups: false, output: Csv }, asked: AskedBeside { questions: [], questions_follow: false }, json: None }",
     ),
     (
         "hlc audit --strict --limit 0",
-        "Audit { options: AuditOptions { records: LogRules { syntax: Csv, form: Pair, units: None, tolerance: 0, receives: Tick, unsent_local: false, resent: None, faults: First }, strict: true, limit: Some(0), report: false, groups: false, output: Csv }, asked: [], json: None }",
+        "Audit { options: AuditOptions { records: LogRules { syntax: Csv, form: Pair, units: None, tolerance: 0, receives: Tick, unsent_local: false, resent: None, faults: First }, strict: true, limit: Some(0), report: false, groups: false, output: Csv }, asked: AskedBeside { questions: [], questions_follow: false }, json: None }",
     ),
     (
         "hlc audit --unsent local --dotted",
-        "Audit { options: AuditOptions { records: LogRules { syntax: Csv, form: Dotted, units: None, tolerance: 0, receives: Tick, unsent_local: true, resent: None, faults: First }, strict: false, limit: None, report: false, groups: false, output: Csv }, asked: [], json: None }",
+        "Audit { options: AuditOptions { records: LogRules { syntax: Csv, form: Dotted, units: None, tolerance: 0, receives: Tick, unsent_local: true, resent: None, faults: First }, strict: false, limit: None, report: false, groups: false, output: Csv }, asked: AskedBeside { questions: [], questions_follow: false }, json: None }",
     ),
     (
         "hlc audit --receives merge-clock --tolerance 9 --resent last",
-        "Audit { options: AuditOptions { records: LogRules { syntax: Csv, form: Pair, units: None, tolerance: 9, receives: MergeClock, unsent_local: false, resent: Some(Last), faults: First }, strict: false, limit: None, report: false, groups: false, output: Csv }, asked: [], json: None }",
+        "Audit { options: AuditOptions { records: LogRules { syntax: Csv, form: Pair, units: None, tolerance: 9, receives: MergeClock, unsent_local: false, resent: Some(Last), faults: First }, strict: false, limit: None, report: false, groups: false, output: Csv }, asked: AskedBeside { questions: [], questions_follow: false }, json: None }",
     ),
     (
         "hlc audit --report --lenient",
-        "Audit { options: AuditOptions { records: LogRules { syntax: Csv, form: Pair, units: None, tolerance: 0, receives: Tick, unsent_local: false, resent: None, faults: LeaveOut }, strict: false, limit: None, report: true, groups: false, output: Csv }, asked: [], json: None }",
+        "Audit { options: AuditOptions { records: LogRules { syntax: Csv, form: Pair, units: None, tolerance: 0, receives: Tick, unsent_local: false, resent: None, faults: LeaveOut }, strict: false, limit: None, report: true, groups: false, output: Csv }, asked: AskedBeside { questions: [], questions_follow: false }, json: None }",
     ),
     (
         "hlc audit --all-faults",
-        "Audit { options: AuditOptions { records: LogRules { syntax: Csv, form: Pair, units: None, tolerance: 0, receives: Tick, unsent_local: false, resent: None, faults: TellEach }, strict: false, limit: None, report: false, groups: false, output: Csv }, asked: [], json: None }",
+        "Audit { options: AuditOptions { records: LogRules { syntax: Csv, form: Pair, units: None, tolerance: 0, receives: Tick, unsent_local: false, resent: None, faults: TellEach }, strict: false, limit: None, report: false, groups: false, output: Csv }, asked: AskedBeside { questions: [], questions_follow: false }, json: None }",
     ),
     (
         "hlc audit --output json",
-        "Audit { options: AuditOptions { records: LogRules { syntax: Csv, form: Pair, units: None, tolerance: 0, receives: Tick, unsent_local: false, resent: None, faults: First }, strict: false, limit: None, report: false, groups: false, output: Json }, asked: [], json: None }",
+        "Audit { options: AuditOptions { records: LogRules { syntax: Csv, form: Pair, units: None, tolerance: 0, receives: Tick, unsent_local: false, resent: None, faults: First }, strict: false, limit: None, report: false, groups: false, output: Json }, asked: AskedBeside { questions: [], questions_follow: false }, json: None }",
     ),
     (
         "hlc watch",
@@ -118,7 +118,11 @@ static ORDERS: [(&str, &str); 36] = [
     ),
     (
         "hlc audit --ask explain,2 --strict --ask drift,\"a,b\" --ask=explain,2",
-        "Audit { options: AuditOptions { records: LogRules { syntax: Csv, form: Pair, units: None, tolerance: 0, receives: Tick, unsent_local: false, resent: None, faults: First }, strict: true, limit: None, report: false, groups: false, output: Csv }, asked: [Explain(Location { file: None, line: 2 }), Drift([97, 44, 98]), Explain(Location { file: None, line: 2 })], json: None }",
+        "Audit { options: AuditOptions { records: LogRules { syntax: Csv, form: Pair, units: None, tolerance: 0, receives: Tick, unsent_local: false, resent: None, faults: First }, strict: true, limit: None, report: false, groups: false, output: Csv }, asked: AskedBeside { questions: [Explain(Location { file: None, line: 2 }), Drift([97, 44, 98]), Explain(Location { file: None, line: 2 })], questions_follow: false }, json: None }",
+    ),
+    (
+        "hlc audit --ask - --ask claimed,7 --strict --ask=-",
+        "Audit { options: AuditOptions { records: LogRules { syntax: Csv, form: Pair, units: None, tolerance: 0, receives: Tick, unsent_local: false, resent: None, faults: First }, strict: true, limit: None, report: false, groups: false, output: Csv }, asked: AskedBeside { questions: [Claimed(Location { file: None, line: 7 })], questions_follow: true }, json: None }",
     ),
     (
         "hlc trace --nodes 3 --capacity 9 --limit 5 --vector",
@@ -126,19 +130,19 @@ static ORDERS: [(&str, &str); 36] = [
     ),
     (
         "hlc audit --packed 1",
-        "Audit { options: AuditOptions { records: LogRules { syntax: Csv, form: Packed(PackedBits { bits: 1 }), units: None, tolerance: 0, receives: Tick, unsent_local: false, resent: None, faults: First }, strict: false, limit: None, report: false, groups: false, output: Csv }, asked: [], json: None }",
+        "Audit { options: AuditOptions { records: LogRules { syntax: Csv, form: Packed(PackedBits { bits: 1 }), units: None, tolerance: 0, receives: Tick, unsent_local: false, resent: None, faults: First }, strict: false, limit: None, report: false, groups: false, output: Csv }, asked: AskedBeside { questions: [], questions_follow: false }, json: None }",
     ),
     (
         "hlc audit --packed=12",
-        "Audit { options: AuditOptions { records: LogRules { syntax: Csv, form: Packed(PackedBits { bits: 12 }), units: None, tolerance: 0, receives: Tick, unsent_local: false, resent: None, faults: First }, strict: false, limit: None, report: false, groups: false, output: Csv }, asked: [], json: None }",
+        "Audit { options: AuditOptions { records: LogRules { syntax: Csv, form: Packed(PackedBits { bits: 12 }), units: None, tolerance: 0, receives: Tick, unsent_local: false, resent: None, faults: First }, strict: false, limit: None, report: false, groups: false, output: Csv }, asked: AskedBeside { questions: [], questions_follow: false }, json: None }",
     ),
     (
         "hlc audit --packed 32",
-        "Audit { options: AuditOptions { records: LogRules { syntax: Csv, form: Packed(PackedBits { bits: 32 }), units: None, tolerance: 0, receives: Tick, unsent_local: false, resent: None, faults: First }, strict: false, limit: None, report: false, groups: false, output: Csv }, asked: [], json: None }",
+        "Audit { options: AuditOptions { records: LogRules { syntax: Csv, form: Packed(PackedBits { bits: 32 }), units: None, tolerance: 0, receives: Tick, unsent_local: false, resent: None, faults: First }, strict: false, limit: None, report: false, groups: false, output: Csv }, asked: AskedBeside { questions: [], questions_follow: false }, json: None }",
     ),
     (
         "hlc audit --jsonl --kind send=posted,sent --field l=.hlc.l --field l=.l",
-        "Audit { options: AuditOptions { records: LogRules { syntax: JsonLines, form: Pair, units: None, tolerance: 0, receives: Tick, unsent_local: false, resent: None, faults: First }, strict: false, limit: None, report: false, groups: false, output: Csv }, asked: [], json: Some(JsonRules { paths: [PathRule { name: FieldName { word: None, column: L }, path: \"hlc.l\" }, PathRule { name: FieldName { word: None, column: L }, path: \"l\" }], kinds: [KindRule { word: Send, values: \"posted,sent\" }] }) }",
+        "Audit { options: AuditOptions { records: LogRules { syntax: JsonLines, form: Pair, units: None, tolerance: 0, receives: Tick, unsent_local: false, resent: None, faults: First }, strict: false, limit: None, report: false, groups: false, output: Csv }, asked: AskedBeside { questions: [], questions_follow: false }, json: Some(JsonRules { paths: [PathRule { name: FieldName { word: None, column: L }, path: \"hlc.l\" }, PathRule { name: FieldName { word: None, column: L }, path: \"l\" }], kinds: [KindRule { word: Send, values: \"posted,sent\" }] }) }",
     ),
     (
         "hlc draw-log --jsonl --explain 3",
@@ -146,7 +150,7 @@ static ORDERS: [(&str, &str); 36] = [
     ),
     (
         "hlc audit --l-unit ntp64 --packed 4 --reading-unit ms",
-        "Audit { options: AuditOptions { records: LogRules { syntax: Csv, form: Packed(PackedBits { bits: 4 }), units: Some(Units { reading: Milliseconds, l: Ntp64 }), tolerance: 0, receives: Tick, unsent_local: false, resent: None, faults: First }, strict: false, limit: None, report: false, groups: false, output: Csv }, asked: [], json: None }",
+        "Audit { options: AuditOptions { records: LogRules { syntax: Csv, form: Packed(PackedBits { bits: 4 }), units: Some(Units { reading: Milliseconds, l: Ntp64 }), tolerance: 0, receives: Tick, unsent_local: false, resent: None, faults: First }, strict: false, limit: None, report: false, groups: false, output: Csv }, asked: AskedBeside { questions: [], questions_follow: false }, json: None }",
     ),
 ];
 

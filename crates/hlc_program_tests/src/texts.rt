@@ -93,7 +93,7 @@ static RECORDS_FAULTS: [(RecordsFault, &str); 4] = [
     (RecordsFault::Memory, "out of memory"),
 ];
 
-static COMMAND_FAULTS: [(CommandFault, &str); 13] = [
+static COMMAND_FAULTS: [(CommandFault, &str); 14] = [
     (CommandFault::NoEvent, "no such event"),
     (CommandFault::BadLog, "bad log"),
     (CommandFault::EmptyLog, "no events"),
@@ -105,6 +105,10 @@ static COMMAND_FAULTS: [(CommandFault, &str); 13] = [
     (
         CommandFault::LogTooLong { most: 16777216 },
         "too many records: a log has at most 16777216",
+    ),
+    (
+        CommandFault::NoQuestion { line: 10000000 },
+        "line 10000000 below `==> questions <==` asks nothing; a question of a log is explain,LINE, check,LINE,LINE.., relation,LINE,LINE, influenced,LINE, drift,NODE, claimed,LINE, event,LINE, why,LINE,LINE, tainted,LINE or first,NODE,RULE",
     ),
     (CommandFault::Records(RecordsFault::Read), "reading failed"),
     (CommandFault::Records(RecordsFault::Write), "writing failed"),
@@ -147,7 +151,7 @@ fn expect_texts_of_lines(rt: &impl Abort, alloc: Global) {
             (LineFault::Output, "--output takes `csv`, `json` or `text`"),
             (
                 LineFault::Question,
-                "--ask takes a question of a log: explain,LINE, check,LINE,LINE.., relation,LINE,LINE, influenced,LINE, drift,NODE, claimed,LINE, event,LINE, why,LINE,LINE, tainted,LINE or first,NODE,RULE",
+                "--ask takes a question of a log: explain,LINE, check,LINE,LINE.., relation,LINE,LINE, influenced,LINE, drift,NODE, claimed,LINE, event,LINE, why,LINE,LINE, tainted,LINE or first,NODE,RULE; or `-`, if questions follow the log",
             ),
             (
                 LineFault::Sign("packed"),
@@ -212,7 +216,7 @@ fn expect_texts_of_lines(rt: &impl Abort, alloc: Global) {
             ),
             (
                 Fault::Line(LineFault::Question),
-                "--ask takes a question of a log: explain,LINE, check,LINE,LINE.., relation,LINE,LINE, influenced,LINE, drift,NODE, claimed,LINE, event,LINE, why,LINE,LINE, tainted,LINE or first,NODE,RULE",
+                "--ask takes a question of a log: explain,LINE, check,LINE,LINE.., relation,LINE,LINE, influenced,LINE, drift,NODE, claimed,LINE, event,LINE, why,LINE,LINE, tainted,LINE or first,NODE,RULE; or `-`, if questions follow the log",
             ),
             (
                 Fault::Line(LineFault::Part(PartMistake::RowsAlone)),

@@ -41,19 +41,19 @@ returns-in-Trace-clause-unread g c =
 
 pub returns-in-Audit-clause-done : goal.returns-in-Audit-clause-done
 returns-in-Audit-clause-done g c =
-    rw c.in-Audit.is (rw c.deref.ensures.value at c.audit_log.ensures.done)
+    rw c.in-Audit.is c.audit_input.ensures.done
 
 pub returns-in-Audit-clause-noted : goal.returns-in-Audit-clause-noted
 returns-in-Audit-clause-noted g c =
-    rw c.in-Audit.is c.audit_log.ensures.noted
+    rw c.in-Audit.is c.audit_input.ensures.noted
 
 pub returns-in-Audit-clause-told : goal.returns-in-Audit-clause-told
 returns-in-Audit-clause-told g c =
-    rw c.in-Audit.is (rw c.deref.ensures.value at c.audit_log.ensures.told)
+    rw c.in-Audit.is c.audit_input.ensures.told
 
 pub returns-in-Audit-clause-unread : goal.returns-in-Audit-clause-unread
 returns-in-Audit-clause-unread g c =
-    if_err c.audit_log.result _ _ (λ fault unread input reads. unread input) c.audit_log.ensures.unread
+    if_err c.audit_input.result _ _ (λ fault unread input reads. unread input) c.audit_input.ensures.unread
 
 pub returns-in-Watch-clause-done : goal.returns-in-Watch-clause-done
 returns-in-Watch-clause-done g c =
