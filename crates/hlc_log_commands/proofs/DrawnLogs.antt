@@ -86,6 +86,7 @@ told_but most options input before after opened part stop.Settings same is stopp
 told_but most options input before after opened part (stop.Mismatch node) same is stopped told = absurd stopped
 told_but most options input before after opened part (stop.GateShut node) same is stopped told = absurd stopped
 told_but most options input before after opened part (stop.LogTooLong records) same is stopped told = absurd stopped
+told_but most options input before after opened part (stop.NoQuestion line) same is stopped told = absurd stopped
 
 -- an opened log of which a part is drawn is a log of at most so many records that is drawn
 pub drawn_up_to : (most : ℕ) (options : DrawLogOptions) (input before after : Option (List ℕ)) (opened : OpenedLog) (part : DrawnPart ℕ)
@@ -115,6 +116,7 @@ tells_no_length most rules input before after opened part stop.Settings stopped 
 tells_no_length most rules input before after opened part (stop.Mismatch node) stopped = tt
 tells_no_length most rules input before after opened part (stop.GateShut node) stopped = tt
 tells_no_length most rules input before after opened part (stop.LogTooLong records) stopped = absurd stopped
+tells_no_length most rules input before after opened part (stop.NoQuestion line) stopped = tt
 
 -- nor is it that the input can't be read
 pub never_of_input : (opened : OpenedLog) (part : DrawnPart ℕ) (before after : Option (List ℕ)) (fault : CommandFault)
@@ -132,3 +134,4 @@ never_of_input opened part before after stop.Settings stopped is = is
 never_of_input opened part before after (stop.Mismatch node) stopped is = is
 never_of_input opened part before after (stop.GateShut node) stopped is = is
 never_of_input opened part before after (stop.LogTooLong records) stopped is = stopped
+never_of_input opened part before after (stop.NoQuestion line) stopped is = stopped
