@@ -135,6 +135,22 @@ def try_long_text(page, program):
         hold(f"{name} leads to {page.text('here')}", page.text("here") == f"Line {line}")
 
 
+def try_million(page, program):
+    """A log of a million lines is opened, asked, and drawn around an event far down."""
+    text = "".join(f"local,n{line % 8},{line},{line - (line == 900_001)},0\n" for line in range(1, 1_000_001)).encode()
+    page.open("#kind=script&text=")
+    page.drop(("million.csv", "Array.from({ length: 1000000 }, (_, place) => `local,n${(place + 1) % 8},${place + 1},${place + 1 - (place === 900000)},0\\n`).join('')"))
+    hold(f"a million lines are counted as {page.text('whole')}", "1,000,000 lines" in page.text("whole"))
+    hold("of a million lines the audit differs", page.saved("save-answers") == asked(program, ["audit"], text)[0])
+    page.do("document.querySelector('#tables a').click()")
+    page.wait("document.querySelector('#picture .sought') !== null")
+    hold(f"of a million lines it draws {words_of(page)}", words_of(page)[1] == ["draw-log", "--around", "900001"])
+    hold("of a million lines the picture differs", page.saved("save-svg") == asked(program, ["draw-log", "--around", "900001"], text)[0])
+    page.click("#e900001 text")
+    page.wait("document.getElementById('told').textContent !== ''")
+    hold(f"of one of a million it says {page.text('told')}", page.text("told").startswith("The event of line 900001 "))
+
+
 def try_kinds(page, program):
     """The kind of a text that is opened is told by its words, and the options of the text before it don't stay."""
     examples = page.ask("JSON.parse(document.getElementById('examples').textContent)")
@@ -294,4 +310,4 @@ def try_stop(page, program):
     hold("after a stopped run it answers something else", page.text("answers") == "event,0,10,0\n")
 
 
-CHECKS = [try_several_files, try_long_files, try_files, try_long_text, try_kinds, try_json, try_headers, try_reading, try_undo, try_outdated, try_stop]
+CHECKS = [try_several_files, try_long_files, try_files, try_long_text, try_million, try_kinds, try_json, try_headers, try_reading, try_undo, try_outdated, try_stop]
