@@ -216,6 +216,7 @@ receive,m,1,10,5,b,second
 
 def try_headers(page, program):
     """A search by fields, where each file has a header of its own."""
+    page.open("#kind=script&text=")
     page.answer("log", HEADED, stamps="pair", limit="")
     for found, says in [("node:a", "1 of 1: line eu.csv:2"), ("node:b", "1 of 1: line us.csv:2"), ("label:second", "1 of 1: line us.csv:2"), ("node:m", "Nothing found.")]:
         page.ask(f"document.getElementById('found').textContent = ''; document.getElementById('search').value = '{found}'; document.getElementById('find').click()")
