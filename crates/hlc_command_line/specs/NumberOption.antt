@@ -51,13 +51,6 @@ abbrev pub IsOptionalNumber : List Row → NumberOption → Option ℕ → Type 
 IsOptionalNumber rows o None = first_of o.name rows ≡ None
 IsOptionalNumber rows o (Some n) = IsNumberOf rows o n
 
--- it is given, or left out
-abbrev pub IsGiven : List Row → NumberOption → Type 0
-IsGiven rows o = (n : ℕ) × IsNumberOf rows o n
-
-abbrev pub IsLeftOut : List Row → NumberOption → Type 0
-IsLeftOut rows o = IsOptionalNumber rows o None
-
 -- the option has such a number, which it may lack only if it is not required, and is read as it was written
 abbrev pub HasNumber : List Row → NumberOption → Type 0
 HasNumber rows o = (n : Option ℕ) × IsOptionalNumber rows o n × (o.required ≡ true → IsSome n) × (one_of o.name rows ≡ first_of o.name rows)

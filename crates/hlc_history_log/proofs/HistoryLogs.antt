@@ -20,9 +20,9 @@ use Rattle.hlc_log.specs.Events.{IsMessageBelow, event_at, no_event, own_rule, r
 use Rattle.hlc_log.specs.Messages.{AreMessagesSound, EachIsSentOnce, Receives as ReceivesMessage, ReceivesUnsent, Sends, SendsTo}
 use Rattle.hlc_log_text.specs.Laws.{HasNamedMessage}
 use Rattle.hlc_log_text.specs.LogText.{IsLogOf, IsNamed, IsRawLogOf, kind_message, kind_word, message_names, name_of, with_names}
+use Rattle.hlc_log_text.specs.ReadText.{ReadText}
 use Rattle.hlc_log_text.specs.Names.{EachNameOnce}
 use Rattle.hlc_log_text.specs.NamedEvent.{NamedEvent, without_asides}
-use Rattle.hlc_log_text.specs.declared.log_text.LogText.{LogText}
 use Rattle.hlc_log_text.proofs.NamedLogs.{is_as_read}
 use Rattle.hlc_history_log.specs.Laws.{TellHistory, log_kind}
 use Rattle.hlc_history_log.specs.LogRows.{message_of}
@@ -156,7 +156,7 @@ delivery_is (Sent to write) sent is = absurd (let bad : ◌≡◌ {A = Option �
 delivery_is (Synced to writes) sent is = absurd (let bad : ◌≡◌ {A = Option ℕ} None (Some sent) = is in cc bad)
 delivery_is (Delivered d) sent is = let same : d ≡ sent = cc is in ap Delivered same
 
-module _ (h : History) (well : IsWellFormed h) (told : List NamedEvent) (text : LogText) (is_log : IsLogOf told text) (tells : TellHistory h.events told) where
+module _ (h : History) (well : IsWellFormed h) (told : List NamedEvent) (text : ReadText) (is_log : IsLogOf told text) (tells : TellHistory h.events told) where
   abbrev log : List LogEvent
   log = text.log.events
 

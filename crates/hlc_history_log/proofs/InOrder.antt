@@ -34,10 +34,10 @@ use Rattle.hlc_log.specs.Reordering.{IsReordering, KeepsEvents}
 use Rattle.hlc_log.proofs.CausalOrders.{contained_before, place_of_contained}
 use Rattle.hlc_log.proofs.OrderSkeletons.{earlier_from_order, earlier_in_order, index_of_place, length-skeleton_in, own_in, place_exists, place_of_index, reading_in, send_from_order, send_in_order}
 use Rattle.hlc_log.proofs.Reorderings.{reordering_keeps_least}
-use Rattle.hlc_log_report.specs.InOrder.{AreOfNodes, IsCarriedRightly, IsGivenStamps, IsInOrder, LogInOrder, carried_of, claimed_in, claimed_of, clocks_of, seen_of, skeleton_of, stamp_told}
-use Rattle.hlc_log_report.proofs.CleanLogs.{claims_are_least, none_is_named, seen_is_claimed}
-use Rattle.hlc_log_report.proofs.EventsInOrder.{length-clocks_of}
-use Rattle.hlc_log_report.proofs.Ordering.{claimed_at}
+use Rattle.hlc_ordered_log.specs.InOrder.{AreOfNodes, IsCarriedRightly, IsGivenStamps, IsInOrder, LogInOrder, carried_of, claimed_in, claimed_of, clocks_of, seen_of, skeleton_of, stamp_told}
+use Rattle.hlc_ordered_log.proofs.CleanLogs.{claims_are_least, none_is_named, seen_is_claimed}
+use Rattle.hlc_ordered_log.proofs.EventsInOrder.{length-clocks_of}
+use Rattle.hlc_ordered_log.proofs.Ordering.{claimed_at}
 use Rattle.hlc_history_log.specs.Laws.{HasNoCause, HasReading}
 use Rattle.hlc_history_log.proofs.HistoryLogs.{IsHistoryLog}
 

@@ -19,13 +19,13 @@ use Rattle.hlc_log_text.specs.LogRules.{exact_rules}
 use Rattle.hlc_log_text.specs.declared.stamp_form.StampForm.TheVariants as form
 use Rattle.hlc_log_text.specs.LogItem.{LogItem, Tells, events_in, item_of, lines_where, questions_in, reasons_in}
 use Rattle.hlc_log_text.specs.LogText.{IsLogOf, node_names}
+use Rattle.hlc_log_text.specs.ReadText.{ReadText}
 use Rattle.hlc_log_text.specs.NamedEvent.{NamedEvent}
 use Rattle.hlc_log_text.specs.Question.{plain_asked}
 use Rattle.hlc_log_text.specs.Skipped.{is_skip, skipped_in, skipped_on}
 use Rattle.hlc_log_text.specs.ReadLog.{MakeItems, SayItems}
 use Rattle.hlc_log_text.specs.declared.bad_log.BadLine.{BadLine}
 use Rattle.hlc_log_text.specs.declared.bad_log.BadLog.{BadLog}
-use Rattle.hlc_log_text.specs.declared.log_text.LogText.{LogText}
 use Rattle.hlc_log_text.proofs.PlainLogs.{placed_say, said_once}
 use Rattle.hlc_log_text.proofs.NamedNodes.{read_names}
 use Rattle.hlc_history_log.specs.Label.{label_of}
@@ -180,29 +180,29 @@ module _ (h : History) (clocked : IsClocked h) where
   makes_items = (say_items, few_told)
 
   -- whoever reads the log has what the history's events tell
-  items_read : (text : LogText) → (read : IsLogRead h text) → read.items ≡ map tells_it told
+  items_read : (text : ReadText) → (read : IsLogRead h text) → read.items ≡ map tells_it told
   items_read text read =
       let rows : read.records ≡ log_rows h.events = (logs_read_back h.events).1 read.records read.all in
       said_once (exact_rules form.Pair) [] (log_rows h.events) read.items (map tells_it told) refl
       (subst (λ (records : List Fields). SayItems (exact_rules form.Pair) records read.items) rows read.make) say_items
 
-  pub log_is_read : (text : LogText) → IsLogRead h text → IsHistoryLog h.events text.log.events
+  pub log_is_read : (text : ReadText) → IsLogRead h text → IsHistoryLog h.events text.log.events
   log_is_read text read =
       let same = items_read text read in
       let is_log : IsLogOf told text =
       subst (λ (events : List NamedEvent). IsLogOf events text) (ap events_in same ∙ events_told told) read.held.log in
       is_history_log h clocked.well_formed told text is_log tells_history
 
-  nothing_is_asked : (text : LogText) → IsLogRead h text → text.details.questions ≡ []
+  nothing_is_asked : (text : ReadText) → IsLogRead h text → text.details.questions ≡ []
   nothing_is_asked text read =
       none_mapped plain_asked text.details.questions (read.held.questions ∙ ap questions_in (items_read text read) ∙ nothing_asked told)
 
-  nothing_is_skipped : (text : LogText) → IsLogRead h text → text.details.skipped ≡ None
+  nothing_is_skipped : (text : ReadText) → IsLogRead h text → text.details.skipped ≡ None
   nothing_is_skipped text read =
       let lines = told_lines (log_text h.events) in
       read.skipped ∙ ap (λ (items : List LogItem). skipped_in items lines) (items_read text read) ∙ ap skipped_on (nothing_skipped told lines)
 
-  nothing_is_left_out : (text : LogText) → IsLogRead h text → text.details.left_out ≡ []
+  nothing_is_left_out : (text : ReadText) → IsLogRead h text → text.details.left_out ≡ []
   nothing_is_left_out text read =
       none_mapped (λ (b : BadLine). b.why) text.details.left_out (read.held.left_out ∙ ap reasons_in (items_read text read) ∙ nothing_bad told)
 

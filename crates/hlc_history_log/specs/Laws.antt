@@ -12,13 +12,13 @@ use Rattle.hlc_log.specs.Events.{event_at as log_event_at}
 use Rattle.hlc_log.specs.Standing.{seq_at}
 use Rattle.hlc_log.specs.declared.log_event.LogKind.{LogKind}
 use Rattle.hlc_log.specs.declared.log_event.LogKind.TheVariants as kind
-use Rattle.hlc_log_report.specs.Found.{NamesCausesIn}
-use Rattle.hlc_log_report.specs.InOrder.{IsCarriedRightly, IsInOrder, LogInOrder, claimed_of}
+use Rattle.hlc_ordered_log.specs.Found.{NamesCausesIn}
+use Rattle.hlc_ordered_log.specs.InOrder.{IsCarriedRightly, IsInOrder, LogInOrder, claimed_of}
 use Rattle.hlc_log_text.specs.LogItem.{Tells}
 use Rattle.hlc_log_text.specs.LogText.{kind_word}
+use Rattle.hlc_log_text.specs.ReadText.{ReadText}
 use Rattle.hlc_log_text.specs.NamedEvent.{NamedEvent}
 use Rattle.hlc_log_text.specs.ReadLog.{IsReadWhole, MakeItems}
-use Rattle.hlc_log_text.specs.declared.log_text.LogText.{LogText}
 use Rattle.hlc_log_text.specs.LogRules.{exact_rules}
 use Rattle.hlc_log_text.specs.declared.stamp_form.StampForm.TheVariants as form
 use Rattle.hlc_history_log.specs.Label.{label_of}
@@ -90,37 +90,37 @@ RowsMakeEvents = (h : History) → IsClocked h → (told : List NamedEvent)
     × MakeItems (exact_rules form.Pair) (log_rows h.events) (map (λ event. Tells event) told) × TellHistory h.events told
 
 -- a text that was read is the log of a history
-abbrev pub IsLogRead : History → LogText → Type 0
+abbrev pub IsLogRead : History → ReadText → Type 0
 IsLogRead h text = IsReadWhole (exact_rules form.Pair) MAX_CAPACITY (Some (log_text h.events)) text
 
 -- whoever reads the log finds a causal order in it
 abbrev pub LogsHaveAnOrder : Type 0
-LogsHaveAnOrder = (h : History) (text : LogText) → IsClocked h → IsLogRead h text →
+LogsHaveAnOrder = (h : History) (text : ReadText) → IsClocked h → IsLogRead h text →
     (log : LogInOrder) × (log.receives ≡ Tick) × (log.events ≡ text.log.events) × IsInOrder log
 
 -- whoever reads the log has an event for each of the history's, and is asked nothing, and nothing was left out
 abbrev pub LogsTellEventsAlone : Type 0
-LogsTellEventsAlone = (h : History) (text : LogText) → IsClocked h → IsLogRead h text →
+LogsTellEventsAlone = (h : History) (text : ReadText) → IsClocked h → IsLogRead h text →
     (length text.log.events ≡ length h.events) × (text.details.questions ≡ []) × (text.details.skipped ≡ None) × (text.details.left_out ≡ [])
 
 -- and the log tells what each event's clock read
 abbrev pub LogsTellReadings : Type 0
-LogsTellReadings = (h : History) (text : LogText) (e : ℕ) → IsClocked h → IsLogRead h text → e < length text.log.events →
+LogsTellReadings = (h : History) (text : ReadText) (e : ℕ) → IsClocked h → IsLogRead h text → e < length text.log.events →
     (log_event_at text.log.events e).has_reading ≡ true
 
 -- and its stamp
 abbrev pub LogsTellStamps : Type 0
-LogsTellStamps = (h : History) (text : LogText) (e : ℕ) → IsClocked h → IsLogRead h text → e < length text.log.events →
+LogsTellStamps = (h : History) (text : ReadText) (e : ℕ) → IsClocked h → IsLogRead h text → e < length text.log.events →
     (log_event_at text.log.events e).has_stamp ≡ true
 
 -- but of no event what its message carried
 abbrev pub LogsTellNothingCarried : Type 0
-LogsTellNothingCarried = (h : History) (text : LogText) (e : ℕ) → IsClocked h → IsLogRead h text → e < length text.log.events →
+LogsTellNothingCarried = (h : History) (text : ReadText) (e : ℕ) → IsClocked h → IsLogRead h text → e < length text.log.events →
     (log_event_at text.log.events e).carried ≡ None
 
 -- and of no event a seq
 abbrev pub LogsTellNoSeqs : Type 0
-LogsTellNoSeqs = (h : History) (text : LogText) (e : ℕ) → IsClocked h → IsLogRead h text → e < length text.log.events → seq_at text.log.events e ≡ 0
+LogsTellNoSeqs = (h : History) (text : ReadText) (e : ℕ) → IsClocked h → IsLogRead h text → e < length text.log.events → seq_at text.log.events e ≡ 0
 
 -- no event of a log in order is a cause, whatever c can be written
 abbrev pub HasNoCause : LogInOrder → Type 0
@@ -128,5 +128,5 @@ HasNoCause log = (full k : ℕ) → k < length log.order → NamesCausesIn log f
 
 -- and in each such order the stamps are the least ones of clocks that tick at receives, no message carried another stamp, and none is a cause
 abbrev pub LogsAuditClean : Type 0
-LogsAuditClean = (h : History) (text : LogText) (log : LogInOrder) → IsClocked h → IsLogRead h text →
+LogsAuditClean = (h : History) (text : ReadText) (log : LogInOrder) → IsClocked h → IsLogRead h text →
     log.receives ≡ Tick → log.events ≡ text.log.events → IsInOrder log → (claimed_of log ≡ log.least) × IsCarriedRightly log × HasNoCause log

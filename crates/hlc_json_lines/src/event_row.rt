@@ -224,8 +224,8 @@ fn put_bytes(
     }
 }
 
-// Whether nothing but blanks and a line's end stand in a line.
-fn is_blank(line: &[u8]) -> bool
+/// Whether nothing but spaces, tabs and the end of a line stand in a line: such a line tells of nothing.
+pub fn is_blank(line: &[u8]) -> bool
     ensures { result ≡ is_blank line.now }
 {
     line.iter()

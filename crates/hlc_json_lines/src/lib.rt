@@ -7,6 +7,7 @@
 //!   line, and one that tells of no event is the record `skipped`. So the line of a record is that of the object.
 //! - `JsonRules` says at which keys the fields of a column stand, and which values mean which word, as options give both. A field that no
 //!   path was given for stands at the name of its column, and each word means itself.
+//! - `is_blank` says whether a line is blank.
 //! - `laws` says that the records of the text that lines make are the rows of these lines.
 //!
 //! A field is the text of a string or of a whole number of at most 64 bits; any other number is `-`, and any other value an empty field. In a
@@ -42,5 +43,6 @@ mod log_input;
 mod parts;
 mod path_rule;
 
+pub use event_row::is_blank;
 pub use json_rules::JsonRules;
 pub use log_input::LogInput;

@@ -2,7 +2,7 @@
 use Rattle.hlc_log_text.specs.declared.file_mark.FileMark.{FileMark}
 use Rattle.std.proofs.Common.{List, [], ◌∷◌, ◌++◌, ℕ}
 use Rattle.hlc_csv.specs.Rows.{Fields}
-use Rattle.hlc_log_report.specs.InOrder.{LogInOrder}
+use Rattle.hlc_ordered_log.specs.InOrder.{LogInOrder}
 use Rattle.hlc_log_text.specs.Question.{Asked}
 use Rattle.hlc_log_audit.specs.Answers.{AreAnswers, IsAnswer}
 

@@ -18,11 +18,11 @@ use Rattle.hlc_causes.specs.declared.answers.Finding.{Finding}
 use Rattle.hlc_causes.specs.declared.answers.Finding.TheVariants.{RolledOver, Judged}
 use Rattle.hlc_causes.proofs.CauseLaws.{behind_is_cause, behind_tested, not_above_is_cause, not_above_somewhere, reached_tested}
 use Rattle.hlc_causes.proofs.Disorder.{IsReached}
-use Rattle.hlc_log_report.specs.Counts.{AreCounted, is_behind, is_not_above}
-use Rattle.hlc_log_report.specs.Found.{BreaksAt, FindsAt}
-use Rattle.hlc_log_report.specs.InOrder.{LogInOrder, clocks_of, seen_of, stamp_told}
-use Rattle.hlc_log_report.specs.declared.counts.Counts.{Counts}
-use Rattle.hlc_log_report.proofs.Found.{told_or_not}
+use Rattle.hlc_ordered_log.specs.Counts.{AreCounted, is_behind, is_not_above}
+use Rattle.hlc_ordered_log.specs.Found.{BreaksAt, FindsAt}
+use Rattle.hlc_ordered_log.specs.InOrder.{LogInOrder, clocks_of, seen_of, stamp_told}
+use Rattle.hlc_ordered_log.specs.declared.counts.Counts.{Counts}
+use Rattle.hlc_ordered_log.proofs.Found.{told_or_not}
 
 -- something is counted exactly if it is there
 module _ {X : Type 0} (p : X → Bool) (xs : List X) (d : X) where

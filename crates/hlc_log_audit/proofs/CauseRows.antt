@@ -10,7 +10,7 @@ use Rattle.hlc_causality.specs.Places.{places_below}
 use Rattle.hlc_causes.specs.declared.answers.Causes.{Causes}
 use Rattle.hlc_causes.specs.Causes.{no_causes}
 use Rattle.hlc_csv.specs.Rows.{AddsText, Fields, text_of}
-use Rattle.hlc_log_report.specs.InOrder.{LogInOrder}
+use Rattle.hlc_ordered_log.specs.InOrder.{LogInOrder}
 use Rattle.hlc_log_audit.specs.Report.{AreCausesBefore, NamesCausesAt, cause_rows_at, wrong_at, wrong_row}
 use Rattle.hlc_log_audit.proofs.RowsAdded.{adds_place, flat_map-same}
 

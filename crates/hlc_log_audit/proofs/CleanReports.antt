@@ -12,14 +12,14 @@ use Rattle.hlc_log.specs.Events.{event_at}
 use Rattle.hlc_log.proofs.CausalOrders.{place_in_order}
 use Rattle.hlc_log.proofs.OrderSkeletons.{length-skeleton_in, place_of_index, reading_in}
 use Rattle.hlc_log.specs.OrderSkeleton.{index_in}
-use Rattle.hlc_log_report.specs.Counts.{AreCounted, no_findings, told_count}
-use Rattle.hlc_log_report.specs.Found.{NamesCausesIn}
-use Rattle.hlc_log_report.specs.InOrder.{IsCarriedRightly, IsInOrder, LogInOrder, claimed_of, clocks_of}
-use Rattle.hlc_log_report.specs.Messages.{message_counts}
-use Rattle.hlc_log_report.specs.declared.counts.Counts.{Counts}
-use Rattle.hlc_log_report.proofs.CleanLogs.{all_are_least}
-use Rattle.hlc_log_report.proofs.EventsInOrder.{length-clocks_of, length-skeleton_of}
-use Rattle.hlc_log_report.proofs.Ordering.{claimed_at, order_len}
+use Rattle.hlc_ordered_log.specs.Counts.{AreCounted, no_findings, told_count}
+use Rattle.hlc_ordered_log.specs.Found.{NamesCausesIn}
+use Rattle.hlc_ordered_log.specs.InOrder.{IsCarriedRightly, IsInOrder, LogInOrder, claimed_of, clocks_of}
+use Rattle.hlc_ordered_log.specs.Messages.{message_counts}
+use Rattle.hlc_ordered_log.specs.declared.counts.Counts.{Counts}
+use Rattle.hlc_ordered_log.proofs.CleanLogs.{all_are_least}
+use Rattle.hlc_ordered_log.proofs.EventsInOrder.{length-clocks_of, length-skeleton_of}
+use Rattle.hlc_ordered_log.proofs.Ordering.{claimed_at, order_len}
 use Rattle.hlc_log_text.specs.StampForms.{greatest_c}
 use Rattle.hlc_log_audit.specs.Audit.{BreaksOrder, ClaimsOver, ExceedsLimit, IsBroken, IsOutOfOrder}
 use Rattle.hlc_log_audit.specs.Laws.{LeastStampsAreSound, LeastStampsReportClean}

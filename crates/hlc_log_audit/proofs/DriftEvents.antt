@@ -7,8 +7,8 @@ use Rattle.hlc_causality.specs.ClockEvents.{ClockEvents}
 use Rattle.hlc_causality.specs.Forcing.{HasClockOrigin}
 use Rattle.hlc_explain.specs.ClockFindings.{clock_drift_at, clock_origin_of}
 use Rattle.hlc_explain.specs.declared.answers.Drift.{Drift}
-use Rattle.hlc_log_report.specs.InOrder.{IsInOrder, LogInOrder, clocks_of, reading_told, skeleton_of}
-use Rattle.hlc_log_report.proofs.EventsInOrder.{length-clocks_of, length-skeleton_of}
+use Rattle.hlc_ordered_log.specs.InOrder.{IsInOrder, LogInOrder, clocks_of, reading_told, skeleton_of}
+use Rattle.hlc_ordered_log.proofs.EventsInOrder.{length-clocks_of, length-skeleton_of}
 use Rattle.hlc_log_audit.specs.Answers.{drift_in}
 use Rattle.hlc_log_audit.specs.Tally.{furthest_at, furthest_in}
 use Rattle.hlc_log_audit.specs.ToldDrift.{NamesToldDrift, furthest_told}

@@ -21,15 +21,15 @@ use Rattle.hlc_log.specs.CausalOrder.{place_at}
 use Rattle.hlc_log.specs.Events.{no_event}
 use Rattle.hlc_log.specs.declared.log_event.LogEvent.{LogEvent}
 use Rattle.hlc_log.proofs.OrderSkeletons.{place_exists, same_position, skeleton_in_at}
-use Rattle.hlc_log_report.specs.Found.{NamesCausesIn}
-use Rattle.hlc_log_report.specs.InOrder.{IsInOrder, LogInOrder, carried_of, claimed_of, clocks_of, reading_told, seen_of, skeleton_of, stamp_told, wrong_of}
-use Rattle.hlc_log_report.proofs.Found.{all_if_told, none_if_untold, told_has_all, untold_has_none}
+use Rattle.hlc_ordered_log.specs.Found.{NamesCausesIn}
+use Rattle.hlc_ordered_log.specs.InOrder.{IsInOrder, LogInOrder, carried_of, claimed_of, clocks_of, reading_told, seen_of, skeleton_of, stamp_told, wrong_of}
+use Rattle.hlc_ordered_log.proofs.Found.{all_if_told, none_if_untold, told_has_all, untold_has_none}
 use Rattle.hlc_causes.specs.Seen.{wrong_among}
 use Rattle.hlc_causality.specs.FollowedClockChains.{is_same_pair}
-use Rattle.hlc_log_report.specs.Skew.{NamesSkewBefore}
-use Rattle.hlc_log_report.specs.declared.skew.Skew.{Skew}
-use Rattle.hlc_log_report.proofs.Ordering.{order_len}
-use Rattle.hlc_log_report.proofs.EventsInOrder.{length-clocks_of, length-skeleton_of}
+use Rattle.hlc_ordered_log.specs.Skew.{NamesSkewBefore}
+use Rattle.hlc_ordered_log.specs.declared.skew.Skew.{Skew}
+use Rattle.hlc_ordered_log.proofs.Ordering.{order_len}
+use Rattle.hlc_ordered_log.proofs.EventsInOrder.{length-clocks_of, length-skeleton_of}
 use Rattle.hlc_log_audit.specs.Report.{IsSkewOfEvents, NameEvents, NamesCausesAt}
 
 -- a direct predecessor that is found is earlier

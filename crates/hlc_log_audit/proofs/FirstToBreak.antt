@@ -8,14 +8,14 @@ use Rattle.hlc_causes.specs.declared.answers.Causes.{Causes}
 use Rattle.hlc_log.specs.Reordering.{IsReordering, IsSameNode}
 use Rattle.hlc_log.proofs.OrderSkeletons.{length-skeleton_in, skeleton_in_at}
 use Rattle.hlc_log.proofs.Reorderings.{earlier_returned, same_node_turned}
-use Rattle.hlc_log_report.specs.Found.{NamesCausesIn}
-use Rattle.hlc_log_report.specs.InOrder.{IsInOrder, LogInOrder, clocks_of, event_in_order, skeleton_of, wrong_of}
-use Rattle.hlc_log_report.specs.Moved.{moved_causes, moved_event}
-use Rattle.hlc_log_report.specs.Reordered.{TellTheSame, moved_position}
-use Rattle.hlc_log_report.proofs.EventsInOrder.{length-skeleton_of}
-use Rattle.hlc_log_report.proofs.Ordering.{order_len}
-use Rattle.hlc_log_report.proofs.ReorderedTraces.{skeletons_moved, turned_log}
-use Rattle.hlc_log_report.proofs.SeenTraces.{causes_agree, wrong_agrees}
+use Rattle.hlc_ordered_log.specs.Found.{NamesCausesIn}
+use Rattle.hlc_ordered_log.specs.InOrder.{IsInOrder, LogInOrder, clocks_of, event_in_order, skeleton_of, wrong_of}
+use Rattle.hlc_ordered_log.specs.Moved.{moved_causes, moved_event}
+use Rattle.hlc_ordered_log.specs.Reordered.{TellTheSame, moved_position}
+use Rattle.hlc_ordered_log.proofs.EventsInOrder.{length-skeleton_of}
+use Rattle.hlc_ordered_log.proofs.Ordering.{order_len}
+use Rattle.hlc_ordered_log.proofs.ReorderedTraces.{skeletons_moved, turned_log}
+use Rattle.hlc_ordered_log.proofs.SeenTraces.{causes_agree, wrong_agrees}
 use Rattle.hlc_log_text.specs.declared.cause_word.CauseWord.{CauseWord}
 use Rattle.hlc_log_text.specs.declared.cause_word.CauseWord.TheVariants as word
 use Rattle.hlc_log_audit.specs.FirstToBreak.{BreaksBy, IsFirstToBreak, NamesFirstToBreak, is_told_by}

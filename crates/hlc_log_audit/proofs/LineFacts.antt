@@ -7,9 +7,9 @@ use Rattle.hlc_log.specs.CausalOrder.{place_at}
 use Rattle.hlc_log.specs.Events.{event_at, no_event}
 use Rattle.hlc_log.specs.declared.log_event.LogEvent.{LogEvent}
 use Rattle.hlc_log.proofs.OrderSkeletons.{place_exists, position_is, same_position}
-use Rattle.hlc_log_report.specs.InOrder.{IsInOrder, LogInOrder}
-use Rattle.hlc_log_report.proofs.Ordering.{order_len}
-use Rattle.hlc_open_log.specs.Opened.{LinesRise}
+use Rattle.hlc_ordered_log.specs.InOrder.{IsInOrder, LogInOrder}
+use Rattle.hlc_ordered_log.proofs.Ordering.{order_len}
+use Rattle.hlc_log_text.specs.ReadText.{LinesRise}
 use Rattle.hlc_log_audit.specs.Lines.{HasNumbers, IsOnLine, position_on}
 
 module _ (events : List LogEvent) (rise : LinesRise events) where

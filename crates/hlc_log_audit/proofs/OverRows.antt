@@ -8,11 +8,11 @@ use Rattle.hlc_csv.specs.Rows.{Fields, field_of}
 use Rattle.hlc_log.specs.Events.{event_at}
 use Rattle.hlc_log.specs.CausalOrder.{place_at}
 use Rattle.hlc_log.specs.declared.log_event.LogEvent.{LogEvent}
-use Rattle.hlc_log_report.specs.InOrder.{IsInOrder, LogInOrder, claimed_of, line_in, skeleton_of}
+use Rattle.hlc_ordered_log.specs.InOrder.{IsInOrder, LogInOrder, claimed_of, line_in, skeleton_of}
 use Rattle.hlc_log_text.specs.LogText.{name_of}
 use Rattle.hlc_log_audit.specs.Answers.{claimed_fields, if_event}
 use Rattle.hlc_log_audit.specs.ClaimedWay.{claimed_way}
-use Rattle.hlc_open_log.specs.Opened.{LinesRise}
+use Rattle.hlc_log_text.specs.ReadText.{LinesRise}
 use Rattle.hlc_log_audit.specs.Lines.{position_on}
 use Rattle.hlc_log_audit.specs.OverLimit.{AreOvers, NamesOverBefore}
 use Rattle.hlc_log_audit.specs.Report.{AreOverRows, NamesPlaces, origin_field, over_fields, over_row}

@@ -19,11 +19,11 @@ use Rattle.hlc_log.specs.Reordering.{HaveEqualPairs, IsClockReordering, IsReorde
 use Rattle.hlc_log.proofs.ClockReorderedChains.{chain_kept}
 use Rattle.hlc_log.proofs.OrderSkeletons.{length-skeleton_in, place_exists}
 use Rattle.hlc_log.proofs.Reorderings.{drift_kept, earlier_returned, event_returned}
-use Rattle.hlc_log_report.specs.InOrder.{LogInOrder, claimed_of, clocks_of, reading_told, skeleton_of}
-use Rattle.hlc_log_report.specs.Laws.{KeepsTold}
-use Rattle.hlc_log_report.specs.Reordered.{TellTheSame, moved_position}
-use Rattle.hlc_log_report.proofs.EventsInOrder.{length-clocks_of}
-use Rattle.hlc_log_report.proofs.ReorderedTraces.{claims_moved, cond_moved, least_moved, logs_are_reordered_traces, moved_there, previous_exists, previous_moved, seen, send_exists, send_moved, skeletons_moved}
+use Rattle.hlc_ordered_log.specs.InOrder.{LogInOrder, claimed_of, clocks_of, reading_told, skeleton_of}
+use Rattle.hlc_ordered_log.specs.Laws.{KeepsTold}
+use Rattle.hlc_ordered_log.specs.Reordered.{TellTheSame, moved_position}
+use Rattle.hlc_ordered_log.proofs.EventsInOrder.{length-clocks_of}
+use Rattle.hlc_ordered_log.proofs.ReorderedTraces.{claims_moved, cond_moved, least_moved, logs_are_reordered_traces, moved_there, previous_exists, previous_moved, seen, send_exists, send_moved, skeletons_moved}
 use Rattle.hlc_log_audit.specs.ClaimedWay.{claimed_way, greater_c, if_same_l, source_of}
 use Rattle.hlc_log_audit.specs.Laws.{DriftsAgree, ReorderingKeepsDrifts, ReorderingKeepsWays, WaysAgree}
 use Rattle.hlc_log_audit.specs.Moved.{moved_drift}

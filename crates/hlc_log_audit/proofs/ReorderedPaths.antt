@@ -12,7 +12,7 @@ use Rattle.hlc_causes.proofs.Disorder.{some_is_so}
 use Rattle.hlc_explain.specs.Paths.{path_to, path_within, shorter}
 use Rattle.hlc_log.specs.Reordering.{IsReordering}
 use Rattle.hlc_log.proofs.Reorderings.{direct_kept}
-use Rattle.hlc_log_report.proofs.ReorderedTraces.{previous_moved, send_moved}
+use Rattle.hlc_ordered_log.proofs.ReorderedTraces.{previous_moved, send_moved}
 use Rattle.hlc_log_audit.specs.Laws.{ReorderingKeepsPaths}
 
 module _ (to : ℕ → ℕ) where

@@ -50,16 +50,16 @@ use Rattle.hlc_log.proofs.CausalOrders.{place_in_order}
 use Rattle.hlc_log.proofs.OrderSkeletons.{place_exists, same_position, skeleton_in_at}
 use Rattle.hlc_log.proofs.ClockReorderedChains.{clock_reordering_keeps_chains}
 use Rattle.hlc_log.proofs.Reorderings.{direct_kept, reordering_keeps_happened_before, turned}
-use Rattle.hlc_log_report.specs.Found.{FindsAt}
-use Rattle.hlc_log_report.specs.InOrder.{IsInOrder, LogInOrder, claimed_of, clocks_of, event_in_order, line_in, skeleton_of}
-use Rattle.hlc_log_report.specs.Moved.{moved_finding}
-use Rattle.hlc_log_report.specs.Reordered.{IsRearranged, TellTheSame, moved_position}
-use Rattle.hlc_log_report.proofs.EventsInOrder.{length-clocks_of, length-skeleton_of}
-use Rattle.hlc_log_report.proofs.Ordering.{order_len}
-use Rattle.hlc_log_report.proofs.Rearranged.{event_moved, in_the_order, moved, moved_exists, one_log, reordered, same_size, same_tests, tell_the_same}
-use Rattle.hlc_log_report.proofs.Found.{one_found}
-use Rattle.hlc_log_report.proofs.SeenTraces.{findings_agree}
-use Rattle.hlc_log_report.proofs.ReorderedTraces.{claims_moved, least_moved, logs_are_reordered_traces, moved_there}
+use Rattle.hlc_ordered_log.specs.Found.{FindsAt}
+use Rattle.hlc_ordered_log.specs.InOrder.{IsInOrder, LogInOrder, claimed_of, clocks_of, event_in_order, line_in, skeleton_of}
+use Rattle.hlc_ordered_log.specs.Moved.{moved_finding}
+use Rattle.hlc_ordered_log.specs.Reordered.{IsRearranged, TellTheSame, moved_position}
+use Rattle.hlc_ordered_log.proofs.EventsInOrder.{length-clocks_of, length-skeleton_of}
+use Rattle.hlc_ordered_log.proofs.Ordering.{order_len}
+use Rattle.hlc_ordered_log.proofs.Rearranged.{event_moved, in_the_order, moved, moved_exists, one_log, reordered, same_size, same_tests, tell_the_same}
+use Rattle.hlc_ordered_log.proofs.Found.{one_found}
+use Rattle.hlc_ordered_log.proofs.SeenTraces.{findings_agree}
+use Rattle.hlc_ordered_log.proofs.ReorderedTraces.{claims_moved, least_moved, logs_are_reordered_traces, moved_there}
 use Rattle.hlc_log_text.specs.Labels.{label_at}
 use Rattle.hlc_log_text.specs.CauseWord.{cause_text}
 use Rattle.hlc_log_text.specs.declared.cause_word.CauseWord.{CauseWord}
@@ -69,7 +69,7 @@ use Rattle.hlc_log_text.specs.Question.{Asked, Check, Claimed, Drift as DriftAsk
 use Rattle.hlc_log_audit.specs.Answers.{AnswersAt, AnswersCheck, AnswersFirst, AreRisingLinesOf, IfEvent, IsAnswer, TellsAnswer, TellsEvent, claimed_fields, drift_fields, drift_in, drift_row, event_fields_at, found_in, if_event, label_fields, line_or_none, position_at, position_or_end, reading_field, way_fields}
 use Rattle.hlc_log_audit.specs.ClaimedWay.{claimed_way}
 use Rattle.hlc_log_audit.specs.Laws.{AnswersAgree}
-use Rattle.hlc_open_log.specs.Opened.{LinesRise}
+use Rattle.hlc_log_text.specs.ReadText.{LinesRise}
 use Rattle.hlc_log_audit.specs.Lines.{HasNumbers, IsOnLine, position_on}
 use Rattle.hlc_log_audit.specs.Moved.{moved_drift}
 use Rattle.hlc_log_audit.specs.Words.{found_word, missing_row}

@@ -14,15 +14,14 @@ use Rattle.hlc_log.proofs.Agreement.{faults_leave_no_order}
 use Rattle.hlc_log.proofs.StandingEvents.{stands_either_way}
 use Rattle.hlc_log_text.specs.Question.{Asked}
 use Rattle.hlc_log_text.specs.declared.bad_log.BadLine.{BadLine}
-use Rattle.hlc_log_text.specs.declared.log_text.LogText.{LogText}
+use Rattle.hlc_log_text.specs.ReadText.{LinesRise, ReadText}
 use Rattle.hlc_log_text.specs.declared.question.LogQuestion.{LogQuestion}
 use Rattle.hlc_log_text.specs.declared.skipped.Skipped.{Skipped}
 use Rattle.hlc_log_audit.specs.Answers.{AreAnswers}
-use Rattle.hlc_log_report.specs.InOrder.{AreFilled, IsInOrder, LogInOrder, filled_event}
-use Rattle.hlc_log_report.proofs.Filled.{filled_causal, filled_itself, filled_sound}
-use Rattle.hlc_log_report.proofs.GivenStamps.{filled_twice}
-use Rattle.hlc_log_report.proofs.Rearranged.{given_stamps_agree, one_log, tell_the_same}
-use Rattle.hlc_open_log.specs.Opened.{LinesRise}
+use Rattle.hlc_ordered_log.specs.InOrder.{AreFilled, IsInOrder, LogInOrder, filled_event}
+use Rattle.hlc_ordered_log.proofs.Filled.{filled_causal, filled_itself, filled_sound}
+use Rattle.hlc_ordered_log.proofs.GivenStamps.{filled_twice}
+use Rattle.hlc_ordered_log.proofs.Rearranged.{given_stamps_agree, one_log, tell_the_same}
 use Rattle.hlc_log_audit.proofs.SameAnswers.{answers_agree}
 use Rattle.hlc_open_log.specs.Opened.{IsPartOf, OpenedLog, opened_events, resent_apart}
 use Rattle.hlc_open_log.specs.Unopened.{IsRefused}
@@ -133,7 +132,7 @@ module _ (files : List FileMark) (nodes : List (List ℕ)) (labels : List (ℕ �
       ap (λ (r : Fields). r ∷ others) (answers_agree files nodes labels log other full question row other_row ordered other_ordered clocks same rise are.0 others_are.0)
       ∙ ap (λ (rs : List Fields). row ∷ rs) (same_answers questions rows others are.1 others_are.1)
 
-module _ (text : LogText) (rules : AuditRules) (asked : List LogQuestion)
+module _ (text : ReadText) (rules : AuditRules) (asked : List LogQuestion)
     (rise : LinesRise text.log.events) (before after others : List ℕ) where
   abbrev events : List LogEvent
   events = opened_events rules.records text.messages text.log.events

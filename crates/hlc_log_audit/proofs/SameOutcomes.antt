@@ -8,13 +8,13 @@ use Rattle.hlc_causes.specs.declared.answers.Causes.{Causes}
 use Rattle.hlc_log.specs.Events.{event_at}
 use Rattle.hlc_log.proofs.Reorderings.{drift_kept}
 use Rattle.hlc_log_text.specs.StampForms.{greatest_c}
-use Rattle.hlc_log_report.specs.Found.{NamesCausesIn}
-use Rattle.hlc_log_report.specs.InOrder.{LogInOrder, clocks_of, skeleton_of}
-use Rattle.hlc_log_report.specs.Moved.{moved_causes, moved_event}
-use Rattle.hlc_log_report.specs.Reordered.{TellTheSame, moved_position}
-use Rattle.hlc_log_report.proofs.EventsInOrder.{length-clocks_of}
-use Rattle.hlc_log_report.proofs.ReorderedTraces.{least_moved, moved_there, skeletons_moved, turned_log}
-use Rattle.hlc_log_report.proofs.SeenTraces.{causes_agree, wrong_agrees}
+use Rattle.hlc_ordered_log.specs.Found.{NamesCausesIn}
+use Rattle.hlc_ordered_log.specs.InOrder.{LogInOrder, clocks_of, skeleton_of}
+use Rattle.hlc_ordered_log.specs.Moved.{moved_causes, moved_event}
+use Rattle.hlc_ordered_log.specs.Reordered.{TellTheSame, moved_position}
+use Rattle.hlc_ordered_log.proofs.EventsInOrder.{length-clocks_of}
+use Rattle.hlc_ordered_log.proofs.ReorderedTraces.{least_moved, moved_there, skeletons_moved, turned_log}
+use Rattle.hlc_ordered_log.proofs.SeenTraces.{causes_agree, wrong_agrees}
 use Rattle.hlc_log.proofs.OrderSkeletons.{length-skeleton_in}
 use Rattle.hlc_log_audit.specs.Audit.{BreaksOrder, CarriesWrongly, ClaimsOver, ExceedsLimit, IsBroken, IsOutOfOrder, IsOutcome, IsOverLimit}
 use Rattle.hlc_log_audit.specs.Laws.{OutcomesAgree}

@@ -28,26 +28,26 @@ use Rattle.hlc_log.specs.declared.log_event.LogEvent.{LogEvent}
 use Rattle.hlc_log.specs.Events.{event_at}
 use Rattle.hlc_log.proofs.CausalOrders.{place_in_order}
 use Rattle.hlc_log_text.specs.LogText.{name_of}
-use Rattle.hlc_log_report.specs.Counts.{are_all_ahead}
-use Rattle.hlc_log_report.specs.Found.{NamesCausesIn, is_swapped_in}
-use Rattle.hlc_log_report.specs.InOrder.{LogInOrder, reading_told, skeleton_of, wrong_of}
-use Rattle.hlc_log_report.specs.Messages.{message_counts}
-use Rattle.hlc_log_report.specs.Moved.{moved_causes, moved_event, moved_skew}
-use Rattle.hlc_log_report.specs.Laws.{KeepsTold}
-use Rattle.hlc_log_report.specs.Reordered.{IsRearranged}
-use Rattle.hlc_log_report.specs.Skew.{AreSkews, IsSkewBefore, NamesSkewBefore, Skews, by_nodes, skew_between}
-use Rattle.hlc_log_report.specs.declared.counts.Counts.{Counts}
-use Rattle.hlc_log_report.specs.declared.messages.MessageCounts.{MessageCounts}
-use Rattle.hlc_log_report.specs.declared.skew.Skew.{Skew}
-use Rattle.hlc_log_report.specs.declared.skew_nodes.SkewNodes.{SkewNodes}
-use Rattle.hlc_log_report.proofs.EventsInOrder.{length-clocks_of, length-skeleton_of}
-use Rattle.hlc_log_report.proofs.Ordering.{order_len}
-use Rattle.hlc_log_report.proofs.Rearranged.{counts_agree, event_moved, event_same, messages_agree, moved, moved_back, moved_exists, one_log, reordered, same_size, tell_the_same, unit_factors_agree}
-use Rattle.hlc_log_report.proofs.ReorderedTraces.{moved_there, reordering_keeps_skews}
-use Rattle.hlc_log_report.proofs.SeenTraces.{causes_agree, wrong_agrees}
-use Rattle.hlc_log_report.proofs.Swaps.{swaps_agree}
-use Rattle.hlc_log_report.proofs.SkewOrder.{by_nodes_total, same_keys, same_skews, told_between, told_by}
-use Rattle.hlc_log_report.proofs.SamePlaces.{count_list_moved, flat_moved}
+use Rattle.hlc_ordered_log.specs.Counts.{are_all_ahead}
+use Rattle.hlc_ordered_log.specs.Found.{NamesCausesIn, is_swapped_in}
+use Rattle.hlc_ordered_log.specs.InOrder.{LogInOrder, reading_told, skeleton_of, wrong_of}
+use Rattle.hlc_ordered_log.specs.Messages.{message_counts}
+use Rattle.hlc_ordered_log.specs.Moved.{moved_causes, moved_event, moved_skew}
+use Rattle.hlc_ordered_log.specs.Laws.{KeepsTold}
+use Rattle.hlc_ordered_log.specs.Reordered.{IsRearranged}
+use Rattle.hlc_ordered_log.specs.Skew.{AreSkews, IsSkewBefore, NamesSkewBefore, Skews, by_nodes, skew_between}
+use Rattle.hlc_ordered_log.specs.declared.counts.Counts.{Counts}
+use Rattle.hlc_ordered_log.specs.declared.messages.MessageCounts.{MessageCounts}
+use Rattle.hlc_ordered_log.specs.declared.skew.Skew.{Skew}
+use Rattle.hlc_ordered_log.specs.declared.skew_nodes.SkewNodes.{SkewNodes}
+use Rattle.hlc_ordered_log.proofs.EventsInOrder.{length-clocks_of, length-skeleton_of}
+use Rattle.hlc_ordered_log.proofs.Ordering.{order_len}
+use Rattle.hlc_ordered_log.proofs.Rearranged.{counts_agree, event_moved, event_same, messages_agree, moved, moved_back, moved_exists, one_log, reordered, same_size, tell_the_same, unit_factors_agree}
+use Rattle.hlc_ordered_log.proofs.ReorderedTraces.{moved_there, reordering_keeps_skews}
+use Rattle.hlc_ordered_log.proofs.SeenTraces.{causes_agree, wrong_agrees}
+use Rattle.hlc_ordered_log.proofs.Swaps.{swaps_agree}
+use Rattle.hlc_ordered_log.proofs.SkewOrder.{by_nodes_total, same_keys, same_skews, told_between, told_by}
+use Rattle.hlc_ordered_log.proofs.SamePlaces.{count_list_moved, flat_moved}
 use Rattle.hlc_log_audit.specs.Answers.{drift_fields, drift_in}
 use Rattle.hlc_log_audit.proofs.SameAnswers.{line_moved, node_moved, same_drift, same_node}
 use Rattle.hlc_log_audit.proofs.RowsAdded.{flat_map-same}

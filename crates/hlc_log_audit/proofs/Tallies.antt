@@ -7,8 +7,8 @@ use Rattle.std.proofs.lemmas.List.Sums.{count_by-le-length, count_by_more_no, co
 use Rattle.hlc_causality.specs.Causality.{Skeleton, SkeletonEvent, skeleton_at}
 use Rattle.hlc_causality.specs.NodeEvents.{drift_at}
 use Rattle.hlc_explain.specs.Findings.{further_ahead}
-use Rattle.hlc_log_report.specs.InOrder.{IsInOrder, LogInOrder, reading_told, skeleton_of}
-use Rattle.hlc_log_report.proofs.EventsInOrder.{length-skeleton_of}
+use Rattle.hlc_ordered_log.specs.InOrder.{IsInOrder, LogInOrder, reading_told, skeleton_of}
+use Rattle.hlc_ordered_log.proofs.EventsInOrder.{length-skeleton_of}
 use Rattle.hlc_log_audit.specs.Report.{events_at}
 use Rattle.hlc_log_audit.specs.Tally.{AreTalliesBefore, further, furthest_at, furthest_in, no_tally, tally_before, with_event}
 use Rattle.hlc_log_audit.specs.ToldDrift.{furthest_told}

@@ -3,7 +3,7 @@ use Rattle.std.proofs.Common.{◌≡◌, ◌∙◌, ◌==◌, true, false, ℕ, 
 use Rattle.std.specs.Io.KnownBytes.{Appends}
 use Rattle.hlc_log_text.specs.declared.bad_log.BadLine.{BadLine}
 use Rattle.hlc_log_text.specs.declared.log_rules.LogRules.{LogRules}
-use Rattle.hlc_log_text.specs.declared.log_text.LogText.{LogText}
+use Rattle.hlc_log_text.specs.ReadText.{ReadText}
 use Rattle.hlc_log_text.specs.declared.question.LogQuestion.{LogQuestion}
 use Rattle.hlc_open_log.specs.Opened.{IsOpenedOf, OpenedLog, labels_kept}
 use Rattle.hlc_open_log.specs.Unopened.{ExplainsOpenFault, bad_text}
@@ -22,7 +22,7 @@ asked_in_log rules [] asked unwanted none = let both : true ≡ false = none in 
 asked_in_log rules (q ∷ qs) asked unwanted none = unwanted
 
 -- a log of which rows are told is no bad log
-pub told_is_audited : (text : LogText) (rules : AuditRules) (asked : List LogQuestion) (before after : Option (List ℕ)) (result : Outcome)
+pub told_is_audited : (text : ReadText) (rules : AuditRules) (asked : List LogQuestion) (before after : Option (List ℕ)) (result : Outcome)
     → IsTold text rules asked before after result → IsTextAudited text rules asked before after result
 told_is_audited text rules asked before after Sound told = told
 told_is_audited text rules asked before after OverLimit told = told
@@ -30,7 +30,7 @@ told_is_audited text rules asked before after (Broken over) told = told
 told_is_audited text rules asked before after BadLog told = absurd told.outcome
 
 -- two logs that are opened of one text differ in their orders alone
-pub opened_alike : (rules : LogRules) (text : LogText) (one other : OpenedLog) (is : IsOpenedOf rules text one) (other_is : IsOpenedOf rules text other)
+pub opened_alike : (rules : LogRules) (text : ReadText) (one other : OpenedLog) (is : IsOpenedOf rules text one) (other_is : IsOpenedOf rules text other)
     → other_is.kept ≡ is.kept → other_is.lines ≡ is.lines → other ≡ record one { log = other.log }
 opened_alike rules text one other is other_is kept lines =
     let files : other.files ≡ one.files = other_is.files ∙ sym is.files in

@@ -14,7 +14,7 @@ use Rattle.hlc_causality.proofs.FollowedClockChains.{clock_chain_is_followed}
 use Rattle.hlc_explain.specs.ClockFindings.{clock_drift_at, clock_origin_of}
 use Rattle.hlc_explain.specs.Findings.{further_ahead, furthest_before}
 use Rattle.hlc_explain.specs.declared.answers.Drift.{Drift}
-use Rattle.hlc_log_report.specs.InOrder.{clocks_of, reading_told, skeleton_of}
+use Rattle.hlc_ordered_log.specs.InOrder.{clocks_of, reading_told, skeleton_of}
 use Rattle.hlc_log_audit.specs.Laws.{DriftsOfToldReadings, ToldDriftsAreFound}
 use Rattle.hlc_log_audit.specs.ToldDrift.{HasNoneTold, IsFurthestTold, IsToldOf, NamesToldDrift, furthest_told, told_drift}
 

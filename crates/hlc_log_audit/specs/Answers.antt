@@ -15,8 +15,8 @@ use Rattle.hlc_causes.specs.declared.answers.Finding.{Finding}
 use Rattle.hlc_csv.specs.Rows.{Fields}
 use Rattle.hlc_log.specs.CausalOrder.{place_at}
 use Rattle.hlc_log.specs.declared.log_event.LogEvent.{LogEvent}
-use Rattle.hlc_log_report.specs.Found.{FindsAt}
-use Rattle.hlc_log_report.specs.InOrder.{LogInOrder, claimed_of, clocks_of, event_in_order, line_in, reading_told, skeleton_of}
+use Rattle.hlc_ordered_log.specs.Found.{FindsAt}
+use Rattle.hlc_ordered_log.specs.InOrder.{LogInOrder, claimed_of, clocks_of, event_in_order, line_in, reading_told, skeleton_of}
 use Rattle.hlc_log_text.specs.CauseWord.{cause_text}
 use Rattle.hlc_log_text.specs.Files.{line_at, line_text, location_text}
 use Rattle.hlc_log_text.specs.Labels.{label_at}

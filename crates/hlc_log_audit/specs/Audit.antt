@@ -15,17 +15,17 @@ use Rattle.hlc_log_text.specs.declared.bad_log.BadLine.{BadLine}
 use Rattle.hlc_log_text.specs.declared.bad_log.BadRecord.{BadRecord}
 use Rattle.hlc_log_text.specs.declared.fault_rule.FaultRule.{FaultRule}
 use Rattle.hlc_log_text.specs.declared.log_rules.LogRules.{LogRules}
-use Rattle.hlc_log_text.specs.declared.log_text.LogText.{LogText}
+use Rattle.hlc_log_text.specs.ReadText.{ReadText}
 use Rattle.hlc_log_text.specs.declared.question.LogQuestion.{LogQuestion}
 use Rattle.hlc_log_text.specs.declared.skipped.Skipped.{Skipped}
 use Rattle.hlc_log_audit.specs.Answers.{AreAnswers}
-use Rattle.hlc_log_report.specs.Counts.{AreCounted}
-use Rattle.hlc_log_report.specs.Found.{BreaksAt}
-use Rattle.hlc_log_report.specs.InOrder.{LogInOrder, reading_told, skeleton_of, wrong_of}
-use Rattle.hlc_log_report.specs.Outside.{from_outside_count}
-use Rattle.hlc_log_report.specs.Unread.{unread_count}
-use Rattle.hlc_log_report.specs.Unstamped.{unstamped_count}
-use Rattle.hlc_log_report.specs.declared.counts.Counts.{Counts}
+use Rattle.hlc_ordered_log.specs.Counts.{AreCounted}
+use Rattle.hlc_ordered_log.specs.Found.{BreaksAt}
+use Rattle.hlc_ordered_log.specs.InOrder.{LogInOrder, reading_told, skeleton_of, wrong_of}
+use Rattle.hlc_ordered_log.specs.Outside.{from_outside_count}
+use Rattle.hlc_ordered_log.specs.Unread.{unread_count}
+use Rattle.hlc_ordered_log.specs.Unstamped.{unstamped_count}
+use Rattle.hlc_ordered_log.specs.declared.counts.Counts.{Counts}
 use Rattle.hlc_open_log.specs.Opened.{IsOpened, IsOpenedOf, OpenedLog, opened_events}
 use Rattle.hlc_open_log.specs.Unopened.{AreRecordsBad, HasNoOrder, events_text, records_text}
 use Rattle.hlc_open_log.specs.declared.bad_event.BadEvent.{BadEvent}
@@ -152,7 +152,7 @@ IsDisorderShown rule files names events before after =
     (told : List BadEvent) × HasNoOrder rule files names events told × Appends before after (events_text told)
 
 -- a log that was read was opened, and the writer got the rows that tell of it, with this outcome
-pub record IsTold (text : LogText) (rules : AuditRules) (asked : List LogQuestion) (before after : Option (List ℕ)) (result : Outcome) : Type 0 where
+pub record IsTold (text : ReadText) (rules : AuditRules) (asked : List LogQuestion) (before after : Option (List ℕ)) (result : Outcome) : Type 0 where
   pub opened : OpenedLog
   pub is_opened : IsOpenedOf rules.records text opened
   pub rows : List Fields
@@ -161,7 +161,7 @@ pub record IsTold (text : LogText) (rules : AuditRules) (asked : List LogQuestio
   pub outcome : IsOutcome rules opened.log result
 
 -- what the audit of a log that was read left, with this outcome: the rows that say why it has no order, or what is told of it
-abbrev pub IsTextAudited : LogText → AuditRules → List LogQuestion → (before after : Option (List ℕ)) → Outcome → Type 0
+abbrev pub IsTextAudited : ReadText → AuditRules → List LogQuestion → (before after : Option (List ℕ)) → Outcome → Type 0
 IsTextAudited text rules asked before after outcome.BadLog =
     IsDisorderShown rules.records.faults text.details.files text.message_names (opened_events rules.records text.messages text.log.events) before after
 IsTextAudited text rules asked before after outcome.Sound = IsTold text rules asked before after outcome.Sound
@@ -170,7 +170,7 @@ IsTextAudited text rules asked before after (outcome.Broken over) = IsTold text 
 
 -- the bytes are a log, of which this was left
 pub record IsWholeAudited (rules : AuditRules) (most : ℕ) (asked : List LogQuestion) (bytes before after : Option (List ℕ)) (result : Outcome) : Type 0 where
-  pub text : LogText
+  pub text : ReadText
   pub read : IsReadWhole rules.records most bytes text
   pub left : IsTextAudited text rules asked before after result
 

@@ -3,8 +3,8 @@ use Rattle.std.specs.Prelude.{◌||◌, Bool, ℕ, IsTrue, MatchOption, Option, 
 use Rattle.hlc_causality.specs.Causality.{IsEarlierAtNode}
 use Rattle.hlc_causality.specs.NodeEvents.{IsEventOf}
 use Rattle.hlc_causes.specs.declared.answers.Causes.{Causes}
-use Rattle.hlc_log_report.specs.Found.{NamesCausesIn}
-use Rattle.hlc_log_report.specs.InOrder.{LogInOrder, skeleton_of, wrong_of}
+use Rattle.hlc_ordered_log.specs.Found.{NamesCausesIn}
+use Rattle.hlc_ordered_log.specs.InOrder.{LogInOrder, skeleton_of, wrong_of}
 use Rattle.hlc_log_text.specs.declared.cause_word.CauseWord.{CauseWord}
 use Rattle.hlc_log_text.specs.declared.cause_word.CauseWord.TheVariants as word
 

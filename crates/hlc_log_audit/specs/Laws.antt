@@ -11,17 +11,16 @@ use Rattle.hlc_explain.specs.Taints.{is_raised}
 use Rattle.hlc_csv.specs.Rows.{Fields}
 use Rattle.hlc_log.specs.Reordering.{HaveEqualPairs, IsClockReordering, IsReordering, IsSameNode}
 use Rattle.hlc_log_text.specs.Question.{Asked}
-use Rattle.hlc_log_text.specs.declared.log_text.LogText.{LogText}
+use Rattle.hlc_log_text.specs.ReadText.{LinesRise, ReadText}
 use Rattle.hlc_log_text.specs.declared.question.LogQuestion.{LogQuestion}
-use Rattle.hlc_log_report.specs.Counts.{told_count}
-use Rattle.hlc_log_report.specs.InOrder.{IsCarriedRightly, IsInOrder, LogInOrder, claimed_of, clocks_of, reading_told, skeleton_of}
-use Rattle.hlc_log_report.specs.Laws.{KeepsTold}
-use Rattle.hlc_log_report.specs.Messages.{message_counts}
-use Rattle.hlc_log_report.specs.Reordered.{IsRearranged, TellTheSame, moved_position}
+use Rattle.hlc_ordered_log.specs.Counts.{told_count}
+use Rattle.hlc_ordered_log.specs.InOrder.{IsCarriedRightly, IsInOrder, LogInOrder, claimed_of, clocks_of, reading_told, skeleton_of}
+use Rattle.hlc_ordered_log.specs.Laws.{KeepsTold}
+use Rattle.hlc_ordered_log.specs.Messages.{message_counts}
+use Rattle.hlc_ordered_log.specs.Reordered.{IsRearranged, TellTheSame, moved_position}
 use Rattle.hlc_log_audit.specs.Answers.{IsAnswer, drift_in}
 use Rattle.hlc_log_audit.specs.Audit.{ExceedsLimit, IsOutcome, IsTextAudited}
 use Rattle.hlc_log_audit.specs.ClaimedWay.{claimed_way}
-use Rattle.hlc_open_log.specs.Opened.{LinesRise}
 use Rattle.hlc_log_audit.specs.Moved.{moved_drift}
 use Rattle.hlc_log_audit.specs.Report.{AreSkewRows, IsReport, count_row, message_row, node_rows}
 use Rattle.hlc_log_audit.specs.ToldDrift.{NamesToldDrift, told_drift}
@@ -118,7 +117,7 @@ OutcomesAgree = (log other : LogInOrder) (to back : ℕ → ℕ) → TellTheSame
 
 -- an audit is a function of its log: two audits of one text, by the same rules and with the same asked, have one outcome and leave the same bytes
 abbrev pub AuditsAgree : Type 0
-AuditsAgree = (text : LogText) (rules : AuditRules) (asked : List LogQuestion) (before after others : List ℕ) (result other_result : Outcome) →
+AuditsAgree = (text : ReadText) (rules : AuditRules) (asked : List LogQuestion) (before after others : List ℕ) (result other_result : Outcome) →
     LinesRise text.log.events →
     IsTextAudited text rules asked (Some before) (Some after) result → IsTextAudited text rules asked (Some before) (Some others) other_result →
     (other_result ≡ result) × (others ≡ after)

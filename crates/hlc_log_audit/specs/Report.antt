@@ -20,16 +20,16 @@ use Rattle.hlc_log_audit.specs.Answers.{claimed_fields, drift_fields, drift_in, 
 use Rattle.hlc_log_audit.specs.Lines.{position_on}
 use Rattle.hlc_log_audit.specs.OverLimit.{AreOvers}
 use Rattle.hlc_log_audit.specs.declared.over.Over.{Over}
-use Rattle.hlc_log_report.specs.Counts.{AreCounted, are_all_ahead}
-use Rattle.hlc_log_report.specs.Found.{NamesCausesIn, is_swapped_in}
-use Rattle.hlc_log_report.specs.InOrder.{LogInOrder, reading_told, skeleton_of, wrong_of}
-use Rattle.hlc_log_report.specs.Messages.{message_counts}
-use Rattle.hlc_log_report.specs.Skew.{AreSkews, Skews}
-use Rattle.hlc_log_report.specs.UnitFactor.{unit_factor}
-use Rattle.hlc_log_report.specs.declared.counts.Counts.{Counts}
-use Rattle.hlc_log_report.specs.declared.messages.MessageCounts.{MessageCounts}
-use Rattle.hlc_log_report.specs.declared.skew.Skew.{Skew}
-use Rattle.hlc_log_report.specs.declared.skew_nodes.SkewNodes.{SkewNodes}
+use Rattle.hlc_ordered_log.specs.Counts.{AreCounted, are_all_ahead}
+use Rattle.hlc_ordered_log.specs.Found.{NamesCausesIn, is_swapped_in}
+use Rattle.hlc_ordered_log.specs.InOrder.{LogInOrder, reading_told, skeleton_of, wrong_of}
+use Rattle.hlc_ordered_log.specs.Messages.{message_counts}
+use Rattle.hlc_ordered_log.specs.Skew.{AreSkews, Skews}
+use Rattle.hlc_ordered_log.specs.UnitFactor.{unit_factor}
+use Rattle.hlc_ordered_log.specs.declared.counts.Counts.{Counts}
+use Rattle.hlc_ordered_log.specs.declared.messages.MessageCounts.{MessageCounts}
+use Rattle.hlc_ordered_log.specs.declared.skew.Skew.{Skew}
+use Rattle.hlc_ordered_log.specs.declared.skew_nodes.SkewNodes.{SkewNodes}
 
 -- the row of a verdict's count, if there are some
 abbrev pub count_row : (word : List ℕ) → ℕ → List Fields

@@ -1,7 +1,7 @@
 -- What is counted of the events of each node, one after another.
 use Rattle.std.specs.Prelude.{◌≡◌, ◌==◌, Bool, ℕ, ◌+◌, ◌<◌, List, Option, Some, None, count_by, if◌then◌else◌, length, nat_le, option_map, slice_index_or, take}
 use Rattle.hlc_causality.specs.NodeEvents.{drift_at}
-use Rattle.hlc_log_report.specs.InOrder.{LogInOrder, reading_told, skeleton_of}
+use Rattle.hlc_ordered_log.specs.InOrder.{LogInOrder, reading_told, skeleton_of}
 use Rattle.hlc_log_audit.specs.ToldDrift.{furthest_told}
 use Rattle.hlc_log_audit.specs.declared.tally.Furthest.{Furthest}
 use Rattle.hlc_log_audit.specs.declared.tally.NodeTally.{NodeTally}

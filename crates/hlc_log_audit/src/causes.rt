@@ -3,8 +3,8 @@ ghost use Rattle.hlc_causality.specs.Neighbours.{place_of};
 ghost use Rattle.hlc_csv.specs.Rows.{AddsRow, AddsRows};
 ghost use Rattle.hlc_log_audit.specs.Answers.{told_in};
 ghost use Rattle.hlc_causes.specs.declared.answers.Causes.{Causes as CausesFound};
-ghost use Rattle.hlc_log_report.specs.InOrder.{IsInOrder};
-ghost use Rattle.hlc_log_report.specs.Counts.{AreCounted, no_findings};
+ghost use Rattle.hlc_ordered_log.specs.InOrder.{IsInOrder};
+ghost use Rattle.hlc_ordered_log.specs.Counts.{AreCounted, no_findings};
 ghost use Rattle.hlc_log_audit.specs.Report.{AreCauses, NameEvents, NamesCausesAt, NamesEvent, cause_fields_at, cause_row, cause_rows, cause_rows_at, swapped_at, swapped_fields, wrong_at, wrong_row};
 
 use crate::lines::told_line;
@@ -12,8 +12,8 @@ use crate::soundness::carries_wrongly;
 use hlc_causes::{Cause, Causes};
 use hlc_csv::RowField::{Number, Text};
 use hlc_csv::{OutputFault, RowBuffer};
-use hlc_log_report::{Counts, OrderedLog};
 use hlc_log_text::{Files, LineText, Names, node_name};
+use hlc_ordered_log::{Counts, OrderedLog};
 use hlc_stamp::{EventId, Stamp};
 use std::io::Write;
 

@@ -1,11 +1,11 @@
 ghost use Rattle.std.specs.Prelude.{OnOk};
 ghost use Rattle.hlc_csv.specs.Rows.{AddsRows};
-ghost use Rattle.hlc_log_report.specs.Counts.{AreCounted};
+ghost use Rattle.hlc_ordered_log.specs.Counts.{AreCounted};
 ghost use Rattle.hlc_log_audit.specs.Report.{count_row, count_rows};
 
 use hlc_csv::RowField::{Number, Text};
 use hlc_csv::{OutputFault, RowBuffer};
-use hlc_log_report::{Counts, OrderedLog, count_findings};
+use hlc_ordered_log::{Counts, OrderedLog, count_findings};
 use std::io::Write;
 
 // How many of the log's stamps have each verdict. `full` is the greatest `c` that their form can write.

@@ -1,7 +1,7 @@
 ghost use Rattle.std.specs.Prelude.{◌≡◌, ◌<◌, IfSome, OnOk, length, option_map, position};
 ghost use Rattle.std.specs.Str.{bytes_eq};
 ghost use Rattle.hlc_csv.specs.Rows.{AddsRow};
-ghost use Rattle.hlc_log_report.specs.InOrder.{IsInOrder};
+ghost use Rattle.hlc_ordered_log.specs.InOrder.{IsInOrder};
 ghost use Rattle.hlc_log_audit.specs.Answers.{drift_in, drift_row};
 ghost use Rattle.hlc_log_audit.specs.Tally.{AreTallies, furthest_in};
 
@@ -11,8 +11,8 @@ use crate::words::push_missing;
 use hlc_csv::RowField::{Number, Text};
 use hlc_csv::{OutputFault, RowBuffer};
 use hlc_explain::{Drift, Missing};
-use hlc_log_report::OrderedLog;
 use hlc_open_log::OpenLog;
+use hlc_ordered_log::OrderedLog;
 use hlc_stamp::NodeId;
 use std::io::Write;
 

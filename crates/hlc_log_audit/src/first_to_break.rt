@@ -4,7 +4,7 @@ ghost use Rattle.std.specs.Prelude.{◌≡◌, ◌↔◌, ◌<◌, IfSome, IsTru
 ghost use Rattle.std.specs.Str.{bytes_eq};
 ghost use Rattle.hlc_causality.specs.Neighbours.{place_of};
 ghost use Rattle.hlc_csv.specs.Rows.{AddsRow, Fields};
-ghost use Rattle.hlc_log_report.specs.InOrder.{IsInOrder};
+ghost use Rattle.hlc_ordered_log.specs.InOrder.{IsInOrder};
 ghost use Rattle.hlc_log_audit.specs.Answers.{AnswersFirst};
 ghost use Rattle.hlc_log_audit.specs.FirstToBreak.{BreaksBy, NamesFirstToBreak, is_told_by};
 
@@ -14,9 +14,9 @@ use hlc_causes::Causes;
 use hlc_csv::RowField::Text;
 use hlc_csv::{OutputFault, RowBuffer};
 use hlc_explain::Missing;
-use hlc_log_report::OrderedLog;
 use hlc_log_text::CauseWord;
 use hlc_open_log::OpenLog;
+use hlc_ordered_log::OrderedLog;
 use hlc_stamp::{EventId, NodeId};
 use std::io::Write;
 

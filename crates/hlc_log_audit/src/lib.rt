@@ -54,7 +54,7 @@
 //! (`hlc_log_text::LogQuestion`), and `audit_opened` all rows that `audit_run` writes. `claimed_way` is the way that the `l` of a claimed stamp
 //! came, event by event. `causes_of` and `wrongly_carried_at` are what `cause` rows tell of an event, by its place in the log.
 //!
-//! But for that way it finds nothing itself: `hlc_open_log` reads, and `hlc_log_report`, `hlc_causes` and `hlc_explain` find.
+//! But for that way it finds nothing itself: `hlc_open_log` reads, and `hlc_ordered_log`, `hlc_causes` and `hlc_explain` find.
 //!
 //! `laws` says that an audit is a function of its log, what it leaves if all stamps are the least ones, that a log has one answer to each
 //! question, and that drifts, paths, the ways of claimed stamps, and what a floor raised don't depend on the order in which it tells of its events.

@@ -3,16 +3,16 @@
 ghost use Rattle.std.specs.Prelude.{◌≡◌, ◌<◌, ℕ, ◌++◌, IfNone, IfOk, IfSome, OnOk, length, map, option_map};
 ghost use Rattle.hlc_stamp.specs.Ids.{places_of};
 ghost use Rattle.hlc_causality.specs.Neighbours.{place_of};
-ghost use Rattle.hlc_log_report.specs.InOrder.{IsInOrder, line_in};
+ghost use Rattle.hlc_ordered_log.specs.InOrder.{IsInOrder, line_in};
 ghost use Rattle.hlc_csv.specs.Rows.{row_field_bytes};
 ghost use Rattle.hlc_log_text.specs.Files.{line_text};
-ghost use Rattle.hlc_open_log.specs.Opened.{LinesRise};
+ghost use Rattle.hlc_log_text.specs.ReadText.{LinesRise};
 ghost use Rattle.hlc_log_audit.specs.Answers.{position_at, position_or_end, told_in};
 ghost use Rattle.hlc_log_audit.specs.Lines.{AreEventsIn, HasNumbers, IsOnLine, position_on};
 
 use hlc_csv::RowField;
-use hlc_log_report::OrderedLog;
 use hlc_log_text::{Files, LineText, Location};
+use hlc_ordered_log::OrderedLog;
 use hlc_stamp::EventId;
 use std::alloc::{AllocError, Global};
 

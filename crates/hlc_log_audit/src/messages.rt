@@ -3,7 +3,7 @@ ghost use Rattle.hlc_csv.specs.Rows.{AddsRow};
 ghost use Rattle.hlc_log_audit.specs.Report.{message_row};
 
 use hlc_csv::{OutputFault, RowBuffer};
-use hlc_log_report::MessageCounts;
+use hlc_ordered_log::MessageCounts;
 use std::io::Write;
 
 // Adds the row of the messages.

@@ -1,7 +1,7 @@
 ghost use Rattle.std.specs.Prelude.{◌≡◌, ◌<◌, ◌≤◌, OnOk, length};
 ghost use Rattle.hlc_causality.specs.Causality.{skeleton_at};
 ghost use Rattle.hlc_csv.specs.Rows.{AddsRow, AddsRows};
-ghost use Rattle.hlc_log_report.specs.InOrder.{IsInOrder};
+ghost use Rattle.hlc_ordered_log.specs.InOrder.{IsInOrder};
 ghost use Rattle.hlc_log_audit.specs.Report.{events_at, node_row, node_rows};
 ghost use Rattle.hlc_log_audit.specs.Tally.{furthest_in};
 
@@ -11,8 +11,8 @@ use crate::tally::{NodeTally, tally_nodes};
 use hlc_csv::RowField::{Number, Text};
 use hlc_csv::{OutputFault, RowBuffer};
 use hlc_execution::Execution;
-use hlc_log_report::OrderedLog;
 use hlc_log_text::{Files, Names, node_name};
+use hlc_ordered_log::OrderedLog;
 use hlc_stamp::{EventId, NodeId};
 use std::alloc::Global;
 use std::io::Write;

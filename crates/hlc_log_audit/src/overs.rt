@@ -4,8 +4,8 @@ ghost use Rattle.std.specs.Prelude.{◌≡◌, ◌+◌, ◌<◌, ◌≤◌, IfOk
 ghost use Rattle.hlc_stamp.specs.declared.limits.TheConstants.{MAX_CAPACITY};
 ghost use Rattle.hlc_csv.specs.Rows.{AddsRow, AddsRows, Fields};
 ghost use Rattle.hlc_log.specs.Events.{event_at};
-ghost use Rattle.hlc_log_report.specs.InOrder.{IsInOrder};
-ghost use Rattle.hlc_open_log.specs.Opened.{LinesRise};
+ghost use Rattle.hlc_ordered_log.specs.InOrder.{IsInOrder};
+ghost use Rattle.hlc_log_text.specs.ReadText.{LinesRise};
 ghost use Rattle.hlc_log_audit.specs.OverLimit.{AreOvers, AreOversBefore, with_claim};
 ghost use Rattle.hlc_log_audit.specs.Report.{AreOverRows, NamesPlaces, origin_field, over_fields, over_row, over_rows};
 
@@ -16,9 +16,9 @@ use crate::nodes::node_of;
 use crate::over::Over;
 use hlc_csv::RowField::{Number, Text};
 use hlc_csv::{OutputFault, RowBuffer};
-use hlc_log_report::OrderedLog;
 use hlc_log_text::{Files, LineText, node_name};
 use hlc_open_log::OpenLog;
+use hlc_ordered_log::OrderedLog;
 use hlc_stamp::{EventId, NodeId};
 use std::alloc::{AllocError, Global};
 use std::io::Write;

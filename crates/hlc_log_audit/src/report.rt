@@ -1,9 +1,9 @@
 ghost use Rattle.std.specs.Prelude.{◌≡◌, List, OnOk};
 ghost use Rattle.hlc_csv.specs.Rows.{AddsRows, Fields};
-ghost use Rattle.hlc_log_report.specs.InOrder.{reading_told, skeleton_of};
-ghost use Rattle.hlc_log_report.specs.Messages.{message_counts};
-ghost use Rattle.hlc_log_report.specs.Skew.{AreSkews};
-ghost use Rattle.hlc_log_report.specs.Counts.{AreCounted};
+ghost use Rattle.hlc_ordered_log.specs.InOrder.{reading_told, skeleton_of};
+ghost use Rattle.hlc_ordered_log.specs.Messages.{message_counts};
+ghost use Rattle.hlc_ordered_log.specs.Skew.{AreSkews};
+ghost use Rattle.hlc_ordered_log.specs.Counts.{AreCounted};
 ghost use Rattle.hlc_log_audit.specs.Report.{IsReport};
 
 use crate::causes::push_causes;
@@ -13,8 +13,8 @@ use crate::nodes::push_nodes;
 use crate::skews::push_skews;
 use crate::units::push_units;
 use hlc_csv::{OutputFault, RowBuffer};
-use hlc_log_report::{Counts, MessageCounts, Skew, SkewNodes};
 use hlc_open_log::OpenLog;
+use hlc_ordered_log::{Counts, MessageCounts, Skew, SkewNodes};
 use std::alloc::Global;
 use std::collections::BTreeMap;
 use std::io::Write;

@@ -1,14 +1,14 @@
 ghost use Rattle.std.specs.Prelude.{◌∷◌, [], OnOk, codes, map};
 ghost use Rattle.hlc_csv.specs.Rows.{AddsRow, AddsRows};
-ghost use Rattle.hlc_log_report.specs.InOrder.{IsInOrder, reading_told, skeleton_of};
-ghost use Rattle.hlc_log_report.specs.Skew.{AreSkews};
+ghost use Rattle.hlc_ordered_log.specs.InOrder.{IsInOrder, reading_told, skeleton_of};
+ghost use Rattle.hlc_ordered_log.specs.Skew.{AreSkews};
 ghost use Rattle.hlc_log_audit.specs.Report.{IsSkewOfEvents, skew_row};
 
 use crate::lines::told_line;
 use hlc_csv::RowField::Text;
 use hlc_csv::{OutputFault, RowBuffer};
-use hlc_log_report::{OrderedLog, Skew, SkewNodes};
 use hlc_log_text::{Files, LineText, Names, node_name};
+use hlc_ordered_log::{OrderedLog, Skew, SkewNodes};
 use itoa::Buffer;
 use std::collections::BTreeMap;
 use std::io::Write;

@@ -2,14 +2,14 @@
 
 ghost use Rattle.std.specs.Prelude.{◌↔◌, ◌<◌, IsTrue, length};
 ghost use Rattle.hlc_log_text.specs.StampForms.{greatest_c};
-ghost use Rattle.hlc_log_report.specs.InOrder.{IsInOrder};
+ghost use Rattle.hlc_ordered_log.specs.InOrder.{IsInOrder};
 ghost use Rattle.hlc_log_audit.specs.Audit.{CarriesWrongly, ClaimsOver, ExceedsLimit, IsBeyond, IsOutcome, IsOverLimit, TellsDisorder};
-ghost use Rattle.hlc_log_report.specs.Counts.{AreCounted};
+ghost use Rattle.hlc_ordered_log.specs.Counts.{AreCounted};
 
 use crate::claimed_ahead::claimed_ahead;
 use crate::outcome::Outcome;
 use crate::rules::AuditRules;
-use hlc_log_report::{Counts, OrderedLog};
+use hlc_ordered_log::{Counts, OrderedLog};
 use hlc_stamp::EventId;
 
 // Whether a stamp is behind, or not above another one.

@@ -2,10 +2,10 @@
 
 ghost use Rattle.std.specs.Prelude.{◌≡◌, ◌+◌, ◌<◌, IfOk, length};
 ghost use Rattle.hlc_stamp.specs.declared.limits.TheConstants.{MAX_CAPACITY};
-ghost use Rattle.hlc_log_report.specs.InOrder.{IsInOrder};
+ghost use Rattle.hlc_ordered_log.specs.InOrder.{IsInOrder};
 ghost use Rattle.hlc_log_audit.specs.Tally.{AreTallies, AreTalliesBefore, further, with_event};
 
-use hlc_log_report::OrderedLog;
+use hlc_ordered_log::OrderedLog;
 use hlc_stamp::EventId;
 use std::alloc::{AllocError, Global};
 

@@ -3,7 +3,7 @@ ghost use Rattle.hlc_csv.specs.Rows.{AddsRows};
 ghost use Rattle.hlc_log_audit.specs.Report.{unit_rows};
 
 use hlc_csv::{OutputFault, RowBuffer};
-use hlc_log_report::{Counts, OrderedLog, unit_factor};
+use hlc_ordered_log::{Counts, OrderedLog, unit_factor};
 use std::io::Write;
 
 // Adds the row that tells how many units of `l` make one of the readings, if all stamps are ahead by that.

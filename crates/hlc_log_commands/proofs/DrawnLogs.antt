@@ -7,7 +7,7 @@ use Rattle.hlc_diagram.specs.Chosen.{IsMissing}
 use Rattle.hlc_diagram.specs.declared.draw_fault.DrawFault.{DrawFault}
 use Rattle.hlc_diagram.specs.declared.draw_fault.DrawFault.TheVariants as drawing
 use Rattle.hlc_diagram.specs.declared.view.View.{View}
-use Rattle.hlc_log_report.specs.InOrder.{IsInOrder, LogInOrder}
+use Rattle.hlc_ordered_log.specs.InOrder.{IsInOrder, LogInOrder}
 use Rattle.hlc_open_log.specs.Opened.{IsOpened, IsReordered, OpenedLog}
 use Rattle.hlc_log_picture.specs.Drawn.{DrawnLog, IsDrawnOf}
 use Rattle.hlc_log_picture.specs.Judged.{AreEventFindings}

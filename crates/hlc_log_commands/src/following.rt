@@ -1,12 +1,12 @@
 // What follows a log in an input: questions, below a line that says so.
 
 ghost use Rattle.std.specs.Prelude.{◌≡◌, ◌<◌, ◌++◌, ◌∷◌, [], IfErr, IfOk, IfSome, OnOk, length};
-ghost use Rattle.hlc_json_lines.specs.EventRow.{is_blank};
 ghost use Rattle.hlc_json_lines.specs.Lines.{lines_of};
 ghost use Rattle.hlc_log_commands.specs.Following.{AreAdded, AreParts, IsAddFault, IsMistaken, IsMistakenAt, IsReadFault, is_marker, log_part, questions_part};
 
 use hlc_command_fault::CommandFault;
 use hlc_csv::RecordsFault;
+use hlc_json_lines::is_blank;
 use hlc_log_text::{LogQuestion, question_of};
 use memchr::memchr;
 use std::alloc::Global;
@@ -66,14 +66,6 @@ pub(crate) fn parts(input: &[u8]) -> (&[u8], &[u8])
         rest = below;
     }
     (input, rest)
-}
-
-// Whether a line asks nothing, and isn't to.
-fn is_blank(line: &[u8]) -> bool
-    ensures { result ≡ is_blank line.now }
-{
-    line.iter()
-        .all(|byte| matches!(*byte, b' ' | b'\t' | b'\r' | b'\n'))
 }
 
 // Adds what the line of this number asks, if it isn't blank.

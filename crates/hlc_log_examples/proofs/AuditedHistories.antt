@@ -17,7 +17,7 @@ use Rattle.hlc_log.specs.Faults.{IsFaultOf}
 use Rattle.hlc_log.specs.Unsent.{with_unsent}
 use Rattle.hlc_log.proofs.Agreement.{faults_leave_no_order}
 use Rattle.hlc_log.proofs.UnsentEvents.{nothing_taken}
-use Rattle.hlc_log_text.specs.declared.log_text.LogText.{LogText}
+use Rattle.hlc_log_text.specs.ReadText.{ReadText}
 use Rattle.hlc_log_text.specs.declared.question.LogQuestion.{LogQuestion}
 use Rattle.hlc_log_audit.specs.Audit.{IsTextAudited, IsTold, all_asked, counted_row, missing_rows, taken_rows, unread_row, unstamped_row}
 use Rattle.hlc_log_audit.specs.Laws.{IsCleanReport}
@@ -25,12 +25,12 @@ use Rattle.hlc_log_audit.specs.Report.{IsReport}
 use Rattle.hlc_log_audit.specs.declared.outcome.Outcome.{Outcome}
 use Rattle.hlc_log_audit.specs.declared.outcome.Outcome.TheVariants as outcome
 use Rattle.hlc_log_audit.proofs.BrokenStamps.{counted_is_there}
-use Rattle.hlc_log_report.specs.InOrder.{AreFilled, stamp_told}
-use Rattle.hlc_log_report.specs.Outside.{is_from_outside}
-use Rattle.hlc_log_report.specs.Unread.{is_unread}
-use Rattle.hlc_log_report.specs.Unstamped.{is_unstamped}
-use Rattle.hlc_log_report.proofs.Filled.{filled_told}
-use Rattle.hlc_log_report.proofs.Ordering.{order_len}
+use Rattle.hlc_ordered_log.specs.InOrder.{AreFilled, stamp_told}
+use Rattle.hlc_ordered_log.specs.Outside.{is_from_outside}
+use Rattle.hlc_ordered_log.specs.Unread.{is_unread}
+use Rattle.hlc_ordered_log.specs.Unstamped.{is_unstamped}
+use Rattle.hlc_ordered_log.proofs.Filled.{filled_told}
+use Rattle.hlc_ordered_log.proofs.Ordering.{order_len}
 use Rattle.hlc_log_audit.proofs.CleanReports.{least_stamps_are_sound, least_stamps_report_clean}
 use Rattle.hlc_log_audit.proofs.SameAudits.{told_report}
 use Rattle.hlc_log_audit.specs.LeftOut.{left_out_rows}
@@ -92,7 +92,7 @@ all_counted test (suc n) each =
     let more = fold-append (λ (m : ℕ) (k : ℕ). m + cond (test k) 1 0) 0 (places_below n) (n ∷ []) in
     omega (arith, more, before, last)
 
-module _ (h : History) (clocked : IsClocked h) (report : Bool) (text : LogText) (read : IsLogRead h text) where
+module _ (h : History) (clocked : IsClocked h) (report : Bool) (text : ReadText) (read : IsLogRead h text) where
   -- no message is told to have carried anything, so nothing came in from outside
   untold : (e : ℕ) → (event_at text.log.events e).carried ≡ None
   untold e = elim (cases_lt e (length text.log.events)) [

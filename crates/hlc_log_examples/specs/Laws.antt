@@ -6,10 +6,10 @@ use Rattle.hlc_causality.specs.declared.receives.Receives.TheVariants.{Tick}
 use Rattle.hlc_arena.specs.History.{History}
 use Rattle.hlc_csv.specs.Rows.{Fields, text_of}
 use Rattle.hlc_log_text.specs.LogRules.{exact_rules}
-use Rattle.hlc_log_text.specs.declared.log_text.LogText.{LogText}
+use Rattle.hlc_log_text.specs.ReadText.{ReadText}
 use Rattle.hlc_log_text.specs.declared.stamp_form.StampForm.TheVariants.{Pair}
-use Rattle.hlc_log_report.specs.Counts.{told_count}
-use Rattle.hlc_log_report.specs.InOrder.{IsInOrder, LogInOrder}
+use Rattle.hlc_ordered_log.specs.Counts.{told_count}
+use Rattle.hlc_ordered_log.specs.InOrder.{IsInOrder, LogInOrder}
 use Rattle.hlc_log_audit.specs.Audit.{IsWholeAudited}
 use Rattle.hlc_log_audit.specs.Laws.{IsCleanReport}
 use Rattle.hlc_log_audit.specs.declared.outcome.Outcome.{Outcome}
@@ -26,7 +26,7 @@ plain_rules report = record { records = exact_rules Pair; limit = None; report =
 -- told and least, its nodes, its messages and its skews
 pub record IsFoundSound (h : History) (before after : Option (List ℕ)) (result : Outcome) : Type 0 where
   pub sound : result ≡ Sound
-  pub text : LogText
+  pub text : ReadText
   pub read : IsLogRead h text
   pub log : LogInOrder
   pub receives : log.receives ≡ Tick

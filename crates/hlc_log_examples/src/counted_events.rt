@@ -25,5 +25,5 @@ pub fn count_events(alloc: Global, text: &[u8]) -> Option<u32>
         NameKey::fixed(),
     )
     .ok()?;
-    Some(read.log.len())
+    Some(read.log().len())
 }

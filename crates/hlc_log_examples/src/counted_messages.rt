@@ -1,14 +1,14 @@
-// A caller of `hlc_log_report`.
+// A caller of `hlc_ordered_log`.
 
 ghost use Rattle.std.specs.Prelude.{◌≡◌, All, IfErr, IfOk};
 ghost use Rattle.hlc_log.specs.Events.{IsInRange, IsNumbered};
 ghost use Rattle.hlc_log.specs.Faults.{IsFaultOf};
-ghost use Rattle.hlc_log_report.specs.InOrder.{AreFilled, IsInOrder, LogInOrder};
-ghost use Rattle.hlc_log_report.specs.Messages.{message_counts};
+ghost use Rattle.hlc_ordered_log.specs.InOrder.{AreFilled, IsInOrder, LogInOrder};
+ghost use Rattle.hlc_ordered_log.specs.Messages.{message_counts};
 
 use hlc_causality::Receives;
 use hlc_log::{Log, MAX_LOG_NODES, OrderFault, causal_order};
-use hlc_log_report::{MessageCounts, OrderedLog, count_messages};
+use hlc_ordered_log::{MessageCounts, OrderedLog, count_messages};
 use std::alloc::Global;
 
 /// How many messages a log tells of, or why it has no causal order. Messages have numbers below `messages`.

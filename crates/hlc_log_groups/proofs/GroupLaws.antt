@@ -18,7 +18,7 @@ use Rattle.hlc_causes.specs.declared.answers.Causes.{Causes}
 use Rattle.hlc_causes.proofs.Tests.{below_from_test, no_less}
 use Rattle.hlc_csv.specs.Rows.{Fields}
 use Rattle.hlc_log.specs.OrderSkeleton.{index_in}
-use Rattle.hlc_log_report.specs.InOrder.{LogInOrder}
+use Rattle.hlc_ordered_log.specs.InOrder.{LogInOrder}
 use Rattle.hlc_log_text.specs.declared.file_mark.FileMark.{FileMark}
 use Rattle.hlc_log_audit.specs.Report.{cause_row, cause_rows_at, wrong_at, wrong_row}
 use Rattle.hlc_log_groups.specs.Followed.{followed_at, followed_in, greater_of, pair_after, unless_below}

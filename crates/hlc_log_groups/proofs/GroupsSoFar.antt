@@ -7,7 +7,7 @@ use Rattle.std.proofs.lemmas.List.Concat.{flat_map-append}
 use Rattle.hlc_causality.specs.Places.{places_below}
 use Rattle.hlc_causes.specs.Causes.{no_causes}
 use Rattle.hlc_causes.specs.declared.answers.Causes.{Causes}
-use Rattle.hlc_log_report.specs.InOrder.{LogInOrder}
+use Rattle.hlc_ordered_log.specs.InOrder.{LogInOrder}
 use Rattle.hlc_log_groups.specs.Groups.{KeyedCauses, keyed_at, keyed_in}
 
 -- what stands at places depends on these alone

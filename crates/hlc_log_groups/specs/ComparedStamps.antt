@@ -6,7 +6,7 @@ use Rattle.hlc_causality.specs.Assignment.{pair_at}
 use Rattle.hlc_causality.specs.ClockEvents.{clock_event_at}
 use Rattle.hlc_log.specs.Events.{event_at}
 use Rattle.hlc_log.specs.OrderSkeleton.{index_in}
-use Rattle.hlc_log_report.specs.InOrder.{LogInOrder, clocks_of, event_in_order, seen_of}
+use Rattle.hlc_ordered_log.specs.InOrder.{LogInOrder, clocks_of, event_in_order, seen_of}
 use Rattle.hlc_log_groups.specs.declared.broken_rule.BrokenRule.{BrokenRule}
 use Rattle.hlc_log_groups.specs.declared.broken_rule.BrokenRule.TheVariants as rule
 use Rattle.hlc_log_groups.specs.declared.cause_place.CausePlace.{CausePlace}

@@ -6,7 +6,7 @@ use Rattle.hlc_causality.specs.Assignment.{pair_at}
 use Rattle.hlc_causality.specs.ClockEvents.{ClockEvents, clock_event_at, clock_skeleton}
 use Rattle.hlc_causality.specs.LeastFeasible.{next_pair}
 use Rattle.hlc_causality.specs.Predecessors.{previous_of, send_of}
-use Rattle.hlc_log_report.specs.InOrder.{LogInOrder, clocks_of, seen_of}
+use Rattle.hlc_ordered_log.specs.InOrder.{LogInOrder, clocks_of, seen_of}
 
 -- of two events, if there are any, the one with the greater claimed pair, the first if they tie
 abbrev pub greater_of : List Pair → Option ℕ → Option ℕ → Option ℕ

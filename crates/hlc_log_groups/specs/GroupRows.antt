@@ -7,7 +7,7 @@ use Rattle.hlc_stamp.specs.declared.id.NodeId.{NodeId}
 use Rattle.hlc_stamp.specs.declared.limits.TheConstants.{MAX_CAPACITY}
 use Rattle.hlc_csv.specs.Rows.{Fields, text_of}
 use Rattle.hlc_log.specs.Events.{event_at}
-use Rattle.hlc_log_report.specs.InOrder.{LogInOrder}
+use Rattle.hlc_ordered_log.specs.InOrder.{LogInOrder}
 use Rattle.hlc_log_text.specs.Files.{line_text}
 use Rattle.hlc_log_text.specs.LogText.{name_of}
 use Rattle.hlc_log_text.specs.declared.file_mark.FileMark.{FileMark}

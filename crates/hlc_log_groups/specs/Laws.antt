@@ -5,7 +5,7 @@ use Rattle.hlc_stamp.specs.Order.{Pair}
 use Rattle.hlc_causality.specs.ClockEvents.{ClockEvents}
 use Rattle.hlc_causes.specs.Given.{rule_pair_at}
 use Rattle.hlc_causes.specs.declared.answers.Causes.{Causes}
-use Rattle.hlc_log_report.specs.InOrder.{LogInOrder}
+use Rattle.hlc_ordered_log.specs.InOrder.{LogInOrder}
 use Rattle.hlc_log_text.specs.declared.file_mark.FileMark.{FileMark}
 use Rattle.hlc_log_audit.specs.Report.{cause_rows}
 use Rattle.hlc_log_groups.specs.Followed.{followed_at, pair_after}

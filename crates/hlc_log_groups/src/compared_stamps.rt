@@ -1,7 +1,7 @@
 // The stamps of a cause: the one that breaks the rule, and the one with which the rule compares it.
 
 ghost use Rattle.std.specs.Prelude.{◌≡◌, length};
-ghost use Rattle.hlc_log_report.specs.InOrder.{IsInOrder};
+ghost use Rattle.hlc_ordered_log.specs.InOrder.{IsInOrder};
 ghost use Rattle.hlc_log_groups.specs.ComparedStamps.{asked_pair, logged_pair, seen_pair, told_pair};
 ghost use Rattle.hlc_log_groups.specs.Groups.{NamesEventsBefore};
 
@@ -9,7 +9,7 @@ use crate::broken_rule::BrokenRule;
 use crate::cause_place::CausePlace;
 use crate::following::{seen_of, send_of};
 use hlc_causes::Claims;
-use hlc_log_report::OrderedLog;
+use hlc_ordered_log::OrderedLog;
 use hlc_stamp::Stamp;
 
 // What the event of a cause saw claimed where the rule looks; or the floor, if it looks at no event.

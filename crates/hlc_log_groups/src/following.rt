@@ -5,11 +5,11 @@ ghost use Rattle.std.specs.Option.{ForSome};
 ghost use Rattle.hlc_causality.specs.ClockEvents.{clock_skeleton};
 ghost use Rattle.hlc_causality.specs.Neighbours.{place_of};
 ghost use Rattle.hlc_causality.specs.Predecessors.{previous_of, send_of};
-ghost use Rattle.hlc_log_report.specs.InOrder.{IsInOrder, clocks_of, seen_of};
+ghost use Rattle.hlc_ordered_log.specs.InOrder.{IsInOrder, clocks_of, seen_of};
 ghost use Rattle.hlc_log_groups.specs.Followed.{followed_in, greater_of, unless_below};
 
 use hlc_causes::{Claims, Seen};
-use hlc_log_report::OrderedLog;
+use hlc_ordered_log::OrderedLog;
 use hlc_stamp::{EventId, Stamp};
 
 // Of two events, if there are any, the one with the greater claimed stamp, the first if they tie.

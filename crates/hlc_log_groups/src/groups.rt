@@ -2,7 +2,7 @@ ghost use Rattle.std.specs.Prelude.{◌≡◌, ◌+◌, ◌-◌, ◌^◌, ◌++�
 ghost use Rattle.std.specs.Bool.{then_some};
 ghost use Rattle.hlc_causality.specs.Neighbours.{place_of};
 ghost use Rattle.hlc_log.specs.OrderSkeleton.{index_in};
-ghost use Rattle.hlc_log_report.specs.InOrder.{IsInOrder, event_in_order};
+ghost use Rattle.hlc_ordered_log.specs.InOrder.{IsInOrder, event_in_order};
 ghost use Rattle.hlc_log_audit.specs.Report.{NameEvents, wrong_at};
 ghost use Rattle.hlc_log_groups.specs.Followed.{followed_in};
 ghost use Rattle.hlc_log_groups.specs.Groups.{AreGroups, AreGroupsOf, KeyedCauses, NameBefore, NamesEventsBefore, cause_at, id_of, keyed_at, total, with_cause};
@@ -14,8 +14,8 @@ use crate::following::followed;
 use crate::group_key::GroupKey;
 use hlc_causes::Causes;
 use hlc_log_audit::{causes_of, wrongly_carried_at};
-use hlc_log_report::OrderedLog;
 use hlc_log_text::NameKey;
+use hlc_ordered_log::OrderedLog;
 use hlc_stamp::{EventId, NodeId, Stamp};
 use indexmap::IndexMap;
 use std::alloc::{AllocError, Global};

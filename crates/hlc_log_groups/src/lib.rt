@@ -2,7 +2,7 @@
 //!
 //! - `GroupKey` is what the causes of a group have in common, and `CauseGroup` how many they are, and where the first three of them stand, each a
 //!   `CausePlace`. A `BrokenRule` is what the rows of causes tell by their words.
-//! - `groups_of` makes the groups of a log (`hlc_log_report`), in one pass over its events, and `push_groups` adds their rows.
+//! - `groups_of` makes the groups of a log (`hlc_ordered_log`), in one pass over its events, and `push_groups` adds their rows.
 //!   `GroupDetail` says how much is told of them.
 //! - `followed` says after which event the stamp of the clock rule comes, for causes that are `ahead`: it is what such a cause compares with.
 //! - `audit_with_groups` audits a log as `hlc_log_audit` does, and then writes so much of its groups.

@@ -8,8 +8,8 @@ use Rattle.hlc_causality.specs.Neighbours.{place_of}
 use Rattle.hlc_causes.specs.Causes.{HasCause, NamesFirst}
 use Rattle.hlc_causes.specs.declared.answers.Cause.{Cause}
 use Rattle.hlc_causes.specs.declared.answers.Causes.{Causes}
-use Rattle.hlc_log_report.specs.Found.{IsCauseAt, NamesCausesIn}
-use Rattle.hlc_log_report.specs.InOrder.{LogInOrder, wrong_of}
+use Rattle.hlc_ordered_log.specs.Found.{IsCauseAt, NamesCausesIn}
+use Rattle.hlc_ordered_log.specs.InOrder.{LogInOrder, wrong_of}
 use Rattle.hlc_log_picture.specs.Judged.{AreEventFindingsBefore, IsCauseIn, IsEventFinding, event_finding_at}
 use Rattle.hlc_log_picture.specs.declared.event_finding.EventFinding.{EventFinding}
 

@@ -29,9 +29,9 @@ use Rattle.hlc_log.specs.declared.log_event.LogKind.TheVariants as kind
 use Rattle.std.proofs.lemmas.List.Quantifiers.{position-Some}
 use Rattle.hlc_log.proofs.OrderSkeletons.{length-skeleton_in, needed_before, place_exists, place_of_position, sends_if, skeleton_in_at}
 use Rattle.hlc_causes.specs.Words.{finding_word}
-use Rattle.hlc_log_report.proofs.EventsInOrder.{length-skeleton_of}
-use Rattle.hlc_log_report.specs.Found.{FindsAt}
-use Rattle.hlc_log_report.specs.InOrder.{IsInOrder, LogInOrder, clocks_of, seen_of, skeleton_of, stamp_told}
+use Rattle.hlc_ordered_log.proofs.EventsInOrder.{length-skeleton_of}
+use Rattle.hlc_ordered_log.specs.Found.{FindsAt}
+use Rattle.hlc_ordered_log.specs.InOrder.{IsInOrder, LogInOrder, clocks_of, seen_of, skeleton_of, stamp_told}
 use Rattle.hlc_verdict.specs.declared.claim.Claim.{Claim}
 use Rattle.hlc_verdict.specs.declared.verdict.Verdict.{Verdict}
 use Rattle.hlc_verdict.specs.declared.verdict.Verdict.TheVariants as verdict

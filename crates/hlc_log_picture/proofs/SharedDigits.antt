@@ -5,7 +5,7 @@ use Rattle.std.proofs.lemmas.Bool.{cases_eq, eq-eqb, ne_eqb}
 use Rattle.std.proofs.lemmas.List.{length-drop, take-append-drop}
 use Rattle.hlc_diagram.specs.Numbers.{digits_of}
 use Rattle.hlc_svg.specs.declared.numbers.FirstDigits.{FirstDigits}
-use Rattle.hlc_log_report.specs.InOrder.{LogInOrder, event_in_order}
+use Rattle.hlc_ordered_log.specs.InOrder.{LogInOrder, event_in_order}
 use Rattle.hlc_log_picture.specs.Drawn.{event_of_row}
 use Rattle.hlc_log_picture.specs.Laws.{NoDigitIsLost}
 use Rattle.hlc_log_picture.specs.SharedDigits.{IsJoined, first_digits_of, first_l, shared_by, shared_bytes, shared_digits, shared_with}

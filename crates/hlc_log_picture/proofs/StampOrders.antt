@@ -37,8 +37,8 @@ use Rattle.hlc_log.specs.declared.log_event.LogEvent.{LogEvent}
 use Rattle.hlc_log.proofs.Agreement.{causal_orders_agree}
 use Rattle.hlc_log.proofs.CausalOrders.{place_of_contained, places_differ, contained_before}
 use Rattle.hlc_log.proofs.OrderSkeletons.{earlier_from_order, earlier_of, length-skeleton_in, own_in, place_exists, place_of_index, same_position, send_from_order}
-use Rattle.hlc_log_report.specs.InOrder.{IsInOrder, LogInOrder, clocks_of, event_in_order, skeleton_of}
-use Rattle.hlc_log_report.proofs.Ordering.{order_len}
+use Rattle.hlc_ordered_log.specs.InOrder.{IsInOrder, LogInOrder, clocks_of, event_in_order, skeleton_of}
+use Rattle.hlc_ordered_log.proofs.Ordering.{order_len}
 use Rattle.hlc_log_picture.specs.StampOrder.{AreRanked, AreRows, IsInStampOrder, IsRow, rank_at, row_at}
 use Rattle.hlc_log_picture.specs.declared.stamp_order.Row.{Row}
 

@@ -13,7 +13,7 @@ use Rattle.hlc_stamp.specs.declared.id.EventId.{EventId}
 use Rattle.hlc_log.specs.CausalOrder.{place_at}
 use Rattle.hlc_log.specs.OrderSkeleton.{rules_in}
 use Rattle.hlc_log.specs.declared.log_event.LogEvent.{LogEvent}
-use Rattle.hlc_log_report.specs.InOrder.{IsInOrder, LogInOrder, event_in_order, line_in, skeleton_of}
+use Rattle.hlc_ordered_log.specs.InOrder.{IsInOrder, LogInOrder, event_in_order, line_in, skeleton_of}
 use Rattle.hlc_log_text.specs.Files.{location_of, text_in}
 use Rattle.hlc_log_text.specs.Labels.{label_at}
 use Rattle.hlc_log_text.specs.LogText.{name_of}

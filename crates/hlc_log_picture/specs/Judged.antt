@@ -1,7 +1,7 @@
 -- What is found of the stamps of a log, and where its causes are.
 use Rattle.std.specs.Prelude.{◌≡◌, ◌↔◌, ◌⊎◌, ℕ, ◌<◌, IsTrue, List, None, Some, false, length, slice_index_or}
-use Rattle.hlc_log_report.specs.Found.{FindsAt, IsCauseAt}
-use Rattle.hlc_log_report.specs.InOrder.{LogInOrder, wrong_of}
+use Rattle.hlc_ordered_log.specs.Found.{FindsAt, IsCauseAt}
+use Rattle.hlc_ordered_log.specs.InOrder.{LogInOrder, wrong_of}
 use Rattle.hlc_log_picture.specs.declared.event_finding.EventFinding.{EventFinding}
 
 -- what is found of the event at k

@@ -8,7 +8,7 @@ use Rattle.hlc_diagram.specs.Content.{NodesExist, SendsComeFirst}
 use Rattle.hlc_svg.specs.declared.look.Form.{Form}
 use Rattle.hlc_svg.specs.declared.look.Form.TheVariants.{Hexagon}
 use Rattle.hlc_causes.specs.Words.{finding_word}
-use Rattle.hlc_log_report.specs.InOrder.{IsInOrder, LogInOrder, clocks_of, seen_of, skeleton_of, stamp_told}
+use Rattle.hlc_ordered_log.specs.InOrder.{IsInOrder, LogInOrder, clocks_of, seen_of, skeleton_of, stamp_told}
 use Rattle.hlc_verdict.specs.declared.claim.Claim.{Claim}
 use Rattle.hlc_verdict.specs.declared.verdict.Verdict.{Verdict}
 use Rattle.hlc_verdict.specs.Trace.{claimed_stamps, trace_skeleton}

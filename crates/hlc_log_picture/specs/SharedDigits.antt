@@ -3,7 +3,7 @@ use Rattle.std.specs.Prelude.{◌≡◌, ℕ, zero, suc, ◌+◌, ◌-◌, ◌==
 use Rattle.hlc_diagram.specs.Numbers.{digits_of, head_digits, rest_digits}
 use Rattle.hlc_svg.specs.declared.numbers.FirstDigits.{FirstDigits}
 use Rattle.hlc_log.specs.declared.log_event.LogEvent.{LogEvent}
-use Rattle.hlc_log_report.specs.InOrder.{LogInOrder, event_in_order}
+use Rattle.hlc_ordered_log.specs.InOrder.{LogInOrder, event_in_order}
 use Rattle.hlc_log_picture.specs.declared.shared_digits.TheConstants.{LEAST_HEAD, LEAST_REST}
 
 -- how many first bytes two texts share

@@ -4,7 +4,7 @@ use Rattle.hlc_stamp.specs.Order.{IsOutranked, zero_pair}
 use Rattle.hlc_stamp.specs.declared.rank.Rank.{Rank}
 use Rattle.hlc_causality.specs.Assignment.{pair_at}
 use Rattle.hlc_log.specs.CausalOrder.{place_at}
-use Rattle.hlc_log_report.specs.InOrder.{LogInOrder, event_in_order}
+use Rattle.hlc_ordered_log.specs.InOrder.{LogInOrder, event_in_order}
 use Rattle.hlc_log_picture.specs.declared.stamp_order.Row.{Row}
 
 -- what the event at a position stands by: its least stamp, and then its node

@@ -2,7 +2,7 @@
 use Rattle.std.specs.Prelude.{◌≡◌, ◌⊎◌, ℕ, ◌<◌, Option, Some, None, length}
 use Rattle.hlc_diagram.specs.View.{view_around, view_between}
 use Rattle.hlc_diagram.specs.declared.view.View.{View}
-use Rattle.hlc_log_report.specs.InOrder.{line_in}
+use Rattle.hlc_ordered_log.specs.InOrder.{line_in}
 use Rattle.hlc_stamp.specs.declared.id.EventId.{EventId}
 use Rattle.hlc_log_picture.specs.Drawn.{DrawnLog}
 

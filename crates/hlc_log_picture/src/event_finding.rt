@@ -1,9 +1,9 @@
 ghost use Rattle.std.specs.Prelude.{◌≡◌, ◌↔◌, ◌<◌, IfOk, IsTrue, length};
-ghost use Rattle.hlc_log_report.specs.InOrder.{IsInOrder};
+ghost use Rattle.hlc_ordered_log.specs.InOrder.{IsInOrder};
 ghost use Rattle.hlc_log_picture.specs.Judged.{AreEventFindings, IsCauseIn, IsEventFinding};
 
 use hlc_causes::Finding;
-use hlc_log_report::OrderedLog;
+use hlc_ordered_log::OrderedLog;
 use hlc_stamp::EventId;
 use std::alloc::{AllocError, Global};
 

@@ -1,5 +1,5 @@
 ghost use Rattle.std.specs.Prelude.{◌≡◌, ◌<◌, IfOk, length, option_map};
-ghost use Rattle.hlc_log_report.specs.InOrder.{IsInOrder, line_in};
+ghost use Rattle.hlc_ordered_log.specs.InOrder.{IsInOrder, line_in};
 ghost use Rattle.hlc_log_picture.specs.Drawn.{finding_of_row, label_of_row};
 ghost use Rattle.hlc_log_picture.specs.Judged.{AreEventFindings};
 
@@ -11,9 +11,9 @@ use crate::shared_digits::first_digits;
 use hlc_causes::Finding;
 use hlc_diagram::{FirstDigits, Look, NAME_ROOM, Subject, View, put_cut_label, put_label};
 use hlc_execution::Execution;
-use hlc_log_report::OrderedLog;
 use hlc_log_text::{Files, Names, node_name};
 use hlc_open_log::OpenLog;
+use hlc_ordered_log::OrderedLog;
 use hlc_stamp::{EventId, NodeId};
 use std::alloc::{AllocError, Global};
 use std::marker::Model;

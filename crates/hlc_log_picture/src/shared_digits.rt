@@ -1,12 +1,12 @@
 // The first digits that the stamps and the readings of a log share.
 
 ghost use Rattle.std.specs.Prelude.{◌≡◌, ◌<◌, ◌≤◌, length};
-ghost use Rattle.hlc_log_report.specs.InOrder.{IsInOrder};
+ghost use Rattle.hlc_ordered_log.specs.InOrder.{IsInOrder};
 ghost use Rattle.hlc_log_picture.specs.SharedDigits.{first_digits_of, first_l, head_count, shared_by, shared_bytes, shared_digits, shared_with};
 
 use hlc_diagram::{FirstDigits, digits};
 use hlc_log::LogEvent;
-use hlc_log_report::OrderedLog;
+use hlc_ordered_log::OrderedLog;
 use hlc_stamp::EventId;
 use itoa::Buffer;
 

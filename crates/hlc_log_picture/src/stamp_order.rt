@@ -3,13 +3,13 @@
 ghost use Rattle.std.specs.Prelude.{◌≡◌, ◌<◌, IfOk, OnOk, length, map};
 ghost use Rattle.hlc_stamp.specs.Ids.{places_of};
 ghost use Rattle.hlc_log.specs.CausalOrder.{IsCausalOrder};
-ghost use Rattle.hlc_log_report.specs.InOrder.{IsInOrder};
+ghost use Rattle.hlc_ordered_log.specs.InOrder.{IsInOrder};
 ghost use Rattle.hlc_open_log.specs.Opened.{IsReordered};
 ghost use Rattle.hlc_log_picture.specs.StampOrder.{AreRanked, AreRows, IsInStampOrder, IsRow};
 
 use hlc_causality::Receives;
-use hlc_log_report::OrderedLog;
 use hlc_open_log::OpenLog;
+use hlc_ordered_log::OrderedLog;
 use hlc_stamp::laws::tests_are_the_order;
 use hlc_stamp::{EventId, Rank};
 use std::alloc::{AllocError, Global};

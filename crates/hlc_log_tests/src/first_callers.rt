@@ -10,8 +10,8 @@ use hlc_log_audit::AuditRules;
 use hlc_log_examples::{
     audit_log, count_events, first_cause, messages_of, order_message, stamp_of_field,
 };
-use hlc_log_report::MessageCounts;
 use hlc_log_text::{FaultRule, LogRules, RecordSyntax, StampForm};
+use hlc_ordered_log::MessageCounts;
 use hlc_stamp::{EventId, NodeId, Stamp};
 use std::alloc::Global;
 use std::process::Abort;

@@ -94,7 +94,7 @@ fn expect_skipped(
 ) {
     let rules = rules(syntax, StampForm::Pair);
     let text = read_log(alloc, text.as_bytes(), rules, 16, NameKey::fixed()).expect(rt, "a log");
-    let (events, skipped) = (text.log.len(), text.details.skipped());
+    let (events, skipped) = (text.log().len(), text.details().skipped());
     drop(text);
     let Skipped { count, line } = skipped.expect(rt, "records that were left out");
     assert!(rt;

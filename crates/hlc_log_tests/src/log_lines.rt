@@ -38,9 +38,9 @@ static LINES: [(&[u8], &[u32]); 6] = [
 ];
 
 fn expect_lines(rt: &impl Abort, text: &LogText, lines: &[u32]) {
-    assert!(rt; text.log.len() as usize == lines.len());
-    for (place, line) in (0..text.log.len()).zip(lines) {
-        let event = text.log.get(EventId(place)).expect(rt, "an event");
+    assert!(rt; text.log().len() as usize == lines.len());
+    for (place, line) in (0..text.log().len()).zip(lines) {
+        let event = text.log().get(EventId(place)).expect(rt, "an event");
         assert!(rt; event.line == *line, "{place}: not {line}");
     }
 }
@@ -101,11 +101,11 @@ fn expect_name(rt: &impl Abort, names: &Names, number: usize, name: &[u8]) {
 }
 
 fn expect_names(rt: &impl Abort, text: &LogText) {
-    let last = text.log.get(EventId(2)).expect(rt, "an event");
+    let last = text.log().get(EventId(2)).expect(rt, "an event");
     assert!(rt; last.node == NodeId(0) && last.kind == LogKind::Receive(MessageId(0)));
-    assert!(rt; text.details.nodes().len() == 2);
-    expect_name(rt, text.details.nodes(), 1, b"a\r\nb");
-    assert!(rt; text.messages == 2);
+    assert!(rt; text.details().nodes().len() == 2);
+    expect_name(rt, text.details().nodes(), 1, b"a\r\nb");
+    assert!(rt; text.messages() == 2);
 }
 
 #[test]

@@ -186,14 +186,14 @@ fn expect_question(rt: &impl Abort, alloc: Global, question: &LogQuestion, expec
 }
 
 fn expect_asked(rt: &impl Abort, alloc: Global, text: &LogText, asked: &[&str]) {
-    assert!(rt; text.details.questions().len() == asked.len());
-    for (question, expected) in text.details.questions().iter().zip(asked) {
+    assert!(rt; text.details().questions().len() == asked.len());
+    for (question, expected) in text.details().questions().iter().zip(asked) {
         expect_question(rt, alloc, question, expected);
     }
 }
 
 fn expect_label(rt: &impl Abort, text: &LogText, place: u32, label: Option<&[u8]>) {
-    assert!(rt; text.details.label(EventId(place)) == label, "{place}");
+    assert!(rt; text.details().label(EventId(place)) == label, "{place}");
 }
 
 // A question, an event, and a file with a header and another event.
@@ -204,9 +204,9 @@ fn a_mark_begins_a_file(rt: HostRuntime) {
     let text = log_of(&rt, rt.alloc(), FILED.as_bytes());
     let asked = "Event(Location { file: Some([98, 58, 99]), line: 2 })";
     expect_asked(&rt, rt.alloc(), &text, &[asked]);
-    assert!(&rt; text.log.len() == 2);
-    assert!(&rt; text.details.files().mark_before(3).is_none());
-    let mark = text.details.files().mark_before(5).expect(&rt, "a mark");
+    assert!(&rt; text.log().len() == 2);
+    assert!(&rt; text.details().files().mark_before(3).is_none());
+    let mark = text.details().files().mark_before(5).expect(&rt, "a mark");
     assert!(&rt; &mark.name[..] == b"b:c".as_slice() && mark.line == 3);
     drop(text);
 }
@@ -215,8 +215,8 @@ fn a_mark_begins_a_file(rt: HostRuntime) {
 fn questions_keep_their_order(rt: HostRuntime) {
     let text = log_of(&rt, rt.alloc(), QUESTIONS.as_bytes());
     expect_asked(&rt, rt.alloc(), &text, &ASKED);
-    assert!(&rt; text.log.len() == 2);
-    assert!(&rt; text.log.at(EventId(1)).line == 6);
+    assert!(&rt; text.log().len() == 2);
+    assert!(&rt; text.log().at(EventId(1)).line == 6);
     drop(text);
 }
 
@@ -232,7 +232,7 @@ fn two_logs(alloc: Global) -> Result<Vec<u8>, AllocError> {
 fn logs_with_questions_follow_one_another(rt: HostRuntime) {
     let logs = two_logs(rt.alloc()).expect(&rt, "memory");
     let text = log_of(&rt, rt.alloc(), &logs);
-    let count = text.details.questions().len();
+    let count = text.details().questions().len();
     expect_label(&rt, &text, 2, Some(b"last"));
     drop(text);
     assert!(rt; count == 12);
@@ -271,7 +271,7 @@ fn a_byte_order_mark_is_no_part_of_a_word(rt: HostRuntime) {
 // Reads a log of one event.
 fn expect_one(rt: &impl Abort, alloc: Global, text: &[u8], asked: &[&str], label: Option<&[u8]>) {
     let text = log_of(rt, alloc, text);
-    let count = text.log.len();
+    let count = text.log().len();
     expect_asked(rt, alloc, &text, asked);
     expect_label(rt, &text, 0, label);
     drop(text);

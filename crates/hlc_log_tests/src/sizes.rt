@@ -22,5 +22,5 @@ fn a_long_label_is_kept(rt: HostRuntime) {
         NameKey::fixed(),
     )
     .expect(&rt, "a log");
-    assert!(rt; text.details.label(EventId(0)) == Some(label.as_bytes()));
+    assert!(rt; text.details().label(EventId(0)) == Some(label.as_bytes()));
 }

@@ -9,11 +9,11 @@ use Rattle.hlc_log.specs.declared.log_event.LogEvent.{LogEvent}
 use Rattle.hlc_log.specs.Events.{IsInRange, IsNumbered, no_event}
 use Rattle.hlc_log.proofs.ToldApart.{in_range_apart, length-apart, lines_apart, numbered_apart}
 use Rattle.hlc_log_text.specs.declared.log_rules.LogRules.{LogRules}
-use Rattle.hlc_log_text.specs.declared.log_text.LogText.{LogText}
 use Rattle.hlc_log_text.specs.declared.partial_log.PartialLog.{PartialLog}
 use Rattle.hlc_log_text.specs.Labels.{label_at}
 use Rattle.hlc_log_text.specs.LogItem.{LogItem, events_in}
 use Rattle.hlc_log_text.specs.LogText.{IsLogOf, IsTextOf, apart_count, apart_if, message_names, node_of, sender_of_event, senders_of, unnamed_in, with_names}
+use Rattle.hlc_log_text.specs.ReadText.{ReadText}
 use Rattle.hlc_log_text.specs.NamedEvent.{NamedEvent, without_asides}
 use Rattle.hlc_log_text.specs.PartialLog.{HasFewNames, IsFinished, IsPartialLog, apart_log, apart_text, nodes_named, text_of, text_with}
 use Rattle.hlc_log_text.specs.ReadLog.{AreOnLines, IsReadInto, IsReadWhole, IsTextRead}
@@ -43,7 +43,7 @@ module _ (messages : ℕ) (senders : List (Option NodeId)) (raw : List LogEvent)
   few_apart_if None few = omega arith
   few_apart_if (Some n) few = let size = length-apart_if (Some n) in omega (arith, size, few)
 
-pub length-told : (events : List NamedEvent) (text : LogText) → IsLogOf events text → length text.log.events ≡ length events
+pub length-told : (events : List NamedEvent) (text : ReadText) → IsLogOf events text → length text.log.events ≡ length events
 length-told events text h =
     let names = message_names events in
     ap length h.apart ∙ length-apart_if (length names) (senders_of text.details.nodes events) h.raw (unnamed_in names)

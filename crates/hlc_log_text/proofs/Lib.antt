@@ -10,6 +10,7 @@ pub mod ApartTexts
 pub mod ReadingFacts
 pub mod ExtendedItems
 pub mod SentNames
+pub mod SoundTexts
 pub mod StampsTold
 pub mod TakenItems
 pub mod FileMarks

@@ -21,12 +21,12 @@ use Rattle.hlc_log_text.specs.declared.columns.Columns.{Columns}
 use Rattle.hlc_log_text.specs.FileMarks.{file_mark}
 use Rattle.hlc_log_text.specs.Labels.{GivesLabel, label_at}
 use Rattle.hlc_log_text.specs.LogItem.{Asks, Begins, Fails, LogItem, Names, Skips, Tells, bad_line, bad_lines_in, columns_then, event_lines, events_in, file_names_in, header_columns, if_asked, if_event, if_file, if_reason, is_at_start, is_telling, lines_where, marks_in, picked_in, questions_in, reasons_in}
-use Rattle.hlc_log_text.specs.LogText.{IsRawLogOf, IsNamed, IsRawTextOf, kind_message, message_names, node_names, record_count, sender_of_event, with_names}
+use Rattle.hlc_log_text.specs.LogText.{IsNamed, IsRawLogOf, IsRawTextOf, kind_message, message_names, node_names, record_count, sender_of_event, with_names}
+use Rattle.hlc_log_text.specs.ReadText.{ReadText}
 use Rattle.hlc_log_text.specs.PartialLog.{AreMarked, IsNextLine, IsPartialLog, details_with, last_of, mark_at, text_of, with_message}
 use Rattle.hlc_log_text.specs.NamedEvent.{NamedEvent, without_asides}
 use Rattle.hlc_log_text.specs.Question.{Asked, plain_asked}
 use Rattle.hlc_log_text.specs.Skipped.{is_skip, skip_count, skipped_count, skipped_in, skipped_on, with_skip}
-use Rattle.hlc_log_text.specs.declared.log_text.LogText.{LogText}
 use Rattle.hlc_log_text.specs.declared.question.LogQuestion.{LogQuestion}
 use Rattle.hlc_log_text.specs.declared.partial_log.PartialLog.{PartialLog}
 use Rattle.hlc_log_text.specs.declared.sent_marks.SentMarks.{SentMarks}
@@ -180,11 +180,11 @@ length-items (Skips ∷ items) = let rest = length-items items in omega arith
 length-items (Begins name ∷ items) = let rest = length-items items in omega arith
 length-items (Fails why ∷ items) = let rest = length-items items in omega arith
 
-pub length-log : (events : List NamedEvent) (text : LogText) → IsRawLogOf events text → length text.log.events ≡ length events
+pub length-log : (events : List NamedEvent) (text : ReadText) → IsRawLogOf events text → length text.log.events ≡ length events
 length-log events text h =
     sym (length-map text.log.events (with_names text.details.nodes (message_names events))) ∙ ap length h.told ∙ length-map events without_asides
 
-pub record_count-items : (items : List LogItem) (text : LogText) → IsRawTextOf items text → record_count text ≤ length items
+pub record_count-items : (items : List LogItem) (text : ReadText) → IsRawTextOf items text → record_count text ≤ length items
 record_count-items items text h =
     let events = length-log (events_in items) text h.log in
     let questions : length text.details.questions ≡ length (questions_in items) = sym (length-map text.details.questions plain_asked) ∙ ap length h.questions in
@@ -444,7 +444,7 @@ pub record AddsAside (items : List LogItem) (lines : List ℕ) (old new : Partia
 
 module _ (items : List LogItem) (lines : List ℕ) (old new : PartialLog) (item : LogItem) (h : IsPartialLog items lines old) (n : AddsAside items lines old new item) where
   -- the log with other questions, and other records left out
-  abbrev other : LogText
+  abbrev other : ReadText
   other = record {
     log = old.log;
     message_names = old.messages;
@@ -495,7 +495,7 @@ module _ (items : List LogItem) (lines : List ℕ) (old new : PartialLog) (item 
       let each = one_each-more items lines item new.line h.one_each in
       record {
         held = record {
-          log = subst (λ (text : LogText). IsRawLogOf (events_in (items ++ item ∷ [])) text) (sym is_other)
+          log = subst (λ (text : ReadText). IsRawLogOf (events_in (items ++ item ∷ [])) text) (sym is_other)
               (subst (λ (events : List NamedEvent). IsRawLogOf events other) (sym same_events) log-other);
           questions = n.questions;
           skipped = ap skipped_count n.skipped ∙ count_in (items ++ item ∷ []) (lines ++ new.line ∷ []) each;
@@ -503,10 +503,10 @@ module _ (items : List LogItem) (lines : List ℕ) (old new : PartialLog) (item 
           files = ap (map (λ (mark : FileMark). mark.name)) n.files ∙ names_of_marks (items ++ item ∷ []) (lines ++ new.line ∷ []) each;
         };
         messages = n.messages ∙ h.messages ∙ ap message_names (sym same_events);
-        on_lines = subst (λ (text : LogText). map (λ e. e.line) text.log.events ≡ event_lines (items ++ item ∷ []) (lines ++ new.line ∷ [])) (sym is_other) lines_kept;
+        on_lines = subst (λ (text : ReadText). map (λ e. e.line) text.log.events ≡ event_lines (items ++ item ∷ []) (lines ++ new.line ∷ [])) (sym is_other) lines_kept;
         one_each = each;
         ends = sym (last_of-push 0 lines new.line);
-        before = subst (λ (text : LogText). All (λ e. e.line ≤ new.line) text.log.events) (sym is_other) before_all;
+        before = subst (λ (text : ReadText). All (λ e. e.line ≤ new.line) text.log.events) (sym is_other) before_all;
         low = omega arith;
         columns = n.columns ∙ ap (λ (columns : Option Columns). columns_then columns item) h.columns ∙ sym (header_columns-more items item);
         last = omega arith;
@@ -516,7 +516,7 @@ module _ (items : List LogItem) (lines : List ℕ) (old new : PartialLog) (item 
         skipped = n.skipped;
         left_out = n.left_out;
         sent = subst (λ (sent : SentMarks). AreMarked sent new.log.events) (sym n.sent)
-            (subst (λ (text : LogText). AreMarked old.sent text.log.events) (sym is_other) h.sent);
+            (subst (λ (text : ReadText). AreMarked old.sent text.log.events) (sym is_other) h.sent);
         files = n.files;
         marks = n.marks;
         at_start = n.at_start ∙ sym (at_start-more items item);

@@ -7,9 +7,9 @@ use Rattle.std.proofs.lemmas.List.{length-map}
 use Rattle.std.proofs.lemmas.List.Elements.{All-head, All-tail}
 use Rattle.hlc_log_text.specs.Laws.{HasNamedMessage}
 use Rattle.hlc_log_text.specs.LogText.{IsLogOf, IsNamed, IsRawLogOf, apart_count, apart_if, message_names, senders_of, unnamed_in, with_names}
+use Rattle.hlc_log_text.specs.ReadText.{ReadText}
 use Rattle.hlc_log_text.specs.Names.{first_mentions}
 use Rattle.hlc_log_text.specs.NamedEvent.{NamedEvent, without_asides}
-use Rattle.hlc_log_text.specs.declared.log_text.LogText.{LogText}
 use Rattle.hlc_log_text.proofs.NameFacts.{has_number, known_but_for}
 
 -- no name is the empty one
@@ -64,7 +64,7 @@ messages_few (e ∷ events) = by e.message (messages_few events) where
   by (Some name) few = omega arith
 
 -- such a log is as it was read
-module _ (events : List NamedEvent) (text : LogText) (h : IsLogOf events text) (named : All HasNamedMessage events) where
+module _ (events : List NamedEvent) (text : ReadText) (h : IsLogOf events text) (named : All HasNamedMessage events) where
   abbrev names : List (List ℕ)
   names = message_names events
 

@@ -7,8 +7,8 @@ use Rattle.hlc_log.specs.declared.log_event.LogEvent.{LogEvent}
 use Rattle.hlc_log.specs.declared.message_id.MessageId.{MessageId}
 use Rattle.hlc_stamp.specs.declared.id.NodeId.{NodeId}
 use Rattle.hlc_log_text.specs.LogText.{IsLogOf, apart_if, message_names, senders_of, unnamed_in}
+use Rattle.hlc_log_text.specs.ReadText.{ReadText}
 use Rattle.hlc_log_text.specs.NamedEvent.{NamedEvent}
-use Rattle.hlc_log_text.specs.declared.log_text.LogText.{LogText}
 
 -- messages that are told apart leave events at their nodes
 module _ (unnamed : MessageId) (messages : ℕ) (senders : List (Option NodeId)) (events : List LogEvent) where
@@ -32,7 +32,7 @@ named_alike events others nodes same named k d lt =
     subst (λ (n : ℕ). n < length nodes) (sym is) (named k d within)
 
 -- so each event of a log that was read is of a node that has a name
-pub read_names : (events : List NamedEvent) (text : LogText) → IsLogOf events text → All (λ (e : LogEvent). e.node.0 < length text.details.nodes) text.log.events
+pub read_names : (events : List NamedEvent) (text : ReadText) → IsLogOf events text → All (λ (e : LogEvent). e.node.0 < length text.details.nodes) text.log.events
 read_names events text h =
     let names = message_names events in
     named_alike text.log.events h.raw text.details.nodes

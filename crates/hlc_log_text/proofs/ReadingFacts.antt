@@ -18,7 +18,7 @@ use Rattle.hlc_log.specs.declared.log_event.LogEvent.{LogEvent}
 use Rattle.hlc_log.specs.declared.log_event.LogKind.{LogKind}
 use Rattle.hlc_log.specs.declared.log_event.LogKind.TheVariants.{Local, Outside, Receive, Restart, Send}
 use Rattle.hlc_causality.specs.declared.event_rule.TheConstants.{MAX_FLOOR_C}
-use Rattle.hlc_log.specs.Events.{IsInRange, IsNumbered, IsSmallCarried}
+use Rattle.hlc_log.specs.Events.{IsInRange, IsSmallCarried}
 use Rattle.hlc_log_text.specs.BadColumn.{bad_of_carried}
 use Rattle.hlc_log_text.specs.Columns.{arranged_in, carried_first, carried_for, carried_second, columns_of, extras_after_word, extras_in, extras_with, from_in, if_small, is_complete, names_sender, seq_in}
 use Rattle.hlc_log_text.specs.declared.columns.Columns.{Columns}
@@ -26,13 +26,13 @@ use Rattle.hlc_log_text.specs.declared.extras.Extras.{Extras}
 use Rattle.hlc_log_text.specs.declared.bad_log.BadLog.{BadLog}
 use Rattle.hlc_log_text.specs.declared.bad_log.BadLog.TheVariants as bad
 use Rattle.hlc_log_text.specs.declared.fault.LogTextFault.{LogTextFault}
-use Rattle.hlc_log_text.specs.declared.log_text.LogText.{LogText}
 use Rattle.hlc_log_text.specs.declared.log_column.LogColumn.{LogColumn}
 use Rattle.hlc_log_text.specs.declared.log_word.LogWord.{LogWord}
 use Rattle.hlc_log_text.specs.declared.log_word.LogWord.TheVariants as word
 use Rattle.hlc_log_text.specs.declared.record_head.RecordHead.{RecordHead}
 use Rattle.hlc_log_text.specs.LogItem.{Asks, Begins, Fails, LogItem, Names, Skips, Tells, asks, begins_as_skip, columns_after, events_in, extend, header_item, is_header, item_after, item_after_word, item_by_file, item_from, item_in, other_item, skip_item, tells, unless_missing, unless_sent}
-use Rattle.hlc_log_text.specs.LogText.{apart_count, kind_word, message_names, senders_of, unnamed_in, with_names}
+use Rattle.hlc_log_text.specs.LogText.{kind_word, message_names, senders_of, unnamed_in, with_names}
+use Rattle.hlc_log_text.specs.ReadText.{ReadText}
 use Rattle.hlc_log_text.specs.FileMarks.{begun_file}
 use Rattle.hlc_log_text.specs.Missing.{missing_by}
 use Rattle.hlc_log_text.specs.LogWord.{has_fields_of, log_word_of}
@@ -41,8 +41,7 @@ use Rattle.hlc_log_text.specs.FaultRule.{leaves_sent}
 use Rattle.hlc_log_text.specs.PartialLog.{SaysAfter}
 use Rattle.hlc_log_text.specs.Question.{Asked, asked_of}
 use Rattle.hlc_log_text.specs.ReadLog.{ExplainsFault, IsReadWhole, SayAfter, SayItems}
-use Rattle.hlc_log_text.proofs.ApartTexts.{in_range_apart_if, numbered_apart_if}
-use Rattle.hlc_log_text.proofs.LogFacts.{numbered_of}
+use Rattle.hlc_log_text.proofs.ApartTexts.{in_range_apart_if}
 
 -- a number that a clock may read
 abbrev IsReading : ℕ → Type 0
@@ -358,7 +357,7 @@ room_above Restart stamp has_stamp room is = room
 room_above Outside stamp has_stamp room is = absurd (cc)
 
 -- the events of a log that was read whole are in range
-pub in_range_of_whole : (rules : LogRules) (most : ℕ) (bytes : Option (List ℕ)) (text : LogText) → IsReadWhole rules most bytes text
+pub in_range_of_whole : (rules : LogRules) (most : ℕ) (bytes : Option (List ℕ)) (text : ReadText) → IsReadWhole rules most bytes text
     → All IsInRange text.log.events
 unfolding IsNamedInRange
 in_range_of_whole rules most bytes text whole =
@@ -383,29 +382,13 @@ in_range_of_whole rules most bytes text whole =
 
 -- what a log was read to, or why none was: it is so of whichever bytes the reader began with, so of these
 module _ (rules : LogRules) (most : ℕ) (bytes : Option (List ℕ)) (IsBegun : Option (List ℕ) → Type 0) (begun : IsBegun bytes) where
-  abbrev ReadsOrTells : Result LogText LogTextFault → Type 0
+  abbrev ReadsOrTells : Result ReadText LogTextFault → Type 0
   ReadsOrTells read = (bytes : Option (List ℕ)) → IsBegun bytes → MatchResult read (IsReadWhole rules most bytes) (ExplainsFault rules most bytes)
 
-  pub whole_of_read : (read : Result LogText LogTextFault) → ReadsOrTells read → IfOk read (IsReadWhole rules most bytes)
+  pub whole_of_read : (read : Result ReadText LogTextFault) → ReadsOrTells read → IfOk read (IsReadWhole rules most bytes)
   whole_of_read (Ok text) reads = reads bytes begun
   whole_of_read (Err fault) reads = tt
 
-  pub numbered_of_read : (read : Result LogText LogTextFault) → ReadsOrTells read
-      → IfOk read (λ text. All (IsNumbered text.messages) text.log.events)
-  numbered_of_read (Ok text) reads =
-      let log = (reads bytes begun).held.log in
-      let events = events_in (reads bytes begun).items in
-      let names = message_names events in
-      let raw = numbered_of text.details.nodes names log.raw log.few_nodes log.named in
-      subst (λ (messages : ℕ). All (IsNumbered messages) text.log.events) (sym log.messages)
-      (subst (All (IsNumbered (apart_count (unnamed_in names) (length names) (length log.raw)))) (sym log.apart)
-      (numbered_apart_if (length names) (senders_of text.details.nodes events) log.raw (unnamed_in names) raw))
-  numbered_of_read (Err fault) reads = tt
-
-  pub in_range_of_read : (read : Result LogText LogTextFault) → ReadsOrTells read → IfOk read (λ text. All IsInRange text.log.events)
-  in_range_of_read (Ok text) reads = in_range_of_whole rules most bytes text (reads bytes begun)
-  in_range_of_read (Err fault) reads = tt
-
-  pub fault_of_read : (read : Result LogText LogTextFault) → ReadsOrTells read → IfErr read (ExplainsFault rules most bytes)
+  pub fault_of_read : (read : Result ReadText LogTextFault) → ReadsOrTells read → IfErr read (ExplainsFault rules most bytes)
   fault_of_read (Ok text) reads = tt
   fault_of_read (Err fault) reads = reads bytes begun

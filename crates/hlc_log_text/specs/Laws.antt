@@ -3,8 +3,8 @@ use Rattle.std.specs.Prelude.{◌≡◌, ◌≢◌, All, IfSome, List, [], Some,
 use Rattle.hlc_log_text.specs.declared.log_column.LogColumn.{LogColumn}
 use Rattle.hlc_log_text.specs.Columns.{all_columns_in_place, columns_of}
 use Rattle.hlc_log_text.specs.LogColumn.{all_columns, column_name, column_named}
-use Rattle.hlc_log_text.specs.declared.log_text.LogText.{LogText}
 use Rattle.hlc_log_text.specs.LogText.{IsLogOf, IsRawLogOf}
+use Rattle.hlc_log_text.specs.ReadText.{ReadText}
 use Rattle.hlc_log_text.specs.NamedEvent.{NamedEvent}
 
 -- the column of a column's name is that column
@@ -21,4 +21,4 @@ HasNamedMessage event = IfSome event.message (λ name. name ≢ [])
 
 -- a log in which each message has a name is as it was read: none is told apart
 abbrev pub NamedLogsAreAsRead : Type 0
-NamedLogsAreAsRead = (events : List NamedEvent) (text : LogText) → IsLogOf events text → All HasNamedMessage events → IsRawLogOf events text
+NamedLogsAreAsRead = (events : List NamedEvent) (text : ReadText) → IsLogOf events text → All HasNamedMessage events → IsRawLogOf events text

@@ -22,6 +22,7 @@ pub mod Names
 pub mod PartialLog
 pub mod Question
 pub mod ReadLog
+pub mod ReadText
 pub mod Skipped
 pub mod StampForms
 pub mod Units

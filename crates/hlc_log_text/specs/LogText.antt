@@ -1,5 +1,5 @@
 -- The events that were read, and what their numbers stand for; and the questions.
-use Rattle.std.specs.Prelude.{◌≡◌, ℕ, ◌+◌, ◌*◌, ◌<◌, ◌≤◌, All, AllPairs, List, [], Option, Some, None, bytes_eq, length, map, option_map, position, slice_get, slice_index_or}
+use Rattle.std.specs.Prelude.{◌≡◌, ℕ, ◌+◌, ◌*◌, ◌<◌, ◌≤◌, All, List, [], Option, Some, None, bytes_eq, length, map, option_map, position, slice_get, slice_index_or}
 use Rattle.std.specs.List.{filter_map}
 use Rattle.std.specs.Option.{option_and_then}
 use Rattle.hlc_log.specs.declared.log_event.TheConstants.{MAX_LOG_NODES}
@@ -9,7 +9,6 @@ use Rattle.hlc_log.specs.declared.log_event.LogKind.{LogKind}
 use Rattle.hlc_log.specs.declared.log_event.LogKind.TheVariants as kind
 use Rattle.hlc_log.specs.Events.{IsMessageBelow}
 use Rattle.hlc_log.specs.Senders.{told_apart}
-use Rattle.hlc_log_text.specs.declared.log_text.LogText.{LogText}
 use Rattle.hlc_log_text.specs.declared.log_word.LogWord.{LogWord}
 use Rattle.hlc_log_text.specs.declared.log_word.LogWord.TheVariants as word
 use Rattle.hlc_log_text.specs.Names.{first_mentions}
@@ -17,6 +16,7 @@ use Rattle.hlc_log_text.specs.Labels.{label_at}
 use Rattle.hlc_log_text.specs.LogItem.{LogItem, events_in, file_names_in, questions_in, reasons_in}
 use Rattle.hlc_log_text.specs.NamedEvent.{NamedEvent, without_asides}
 use Rattle.hlc_log_text.specs.Question.{plain_asked}
+use Rattle.hlc_log_text.specs.ReadText.{LinesRise, ReadText}
 use Rattle.hlc_log_text.specs.Skipped.{skip_count, skipped_count}
 
 -- the name of a number
@@ -72,7 +72,7 @@ sender_of_event events place = option_and_then (λ e. e.from) (slice_get events 
 
 -- the text has these events in their order as they were read, messages without a name being of one name, the empty one: each name has the number of
 -- its place, each label stands at its event's place, and lines rise
-pub record IsRawLogOf (events : List NamedEvent) (text : LogText) : Type 0 where
+pub record IsRawLogOf (events : List NamedEvent) (text : ReadText) : Type 0 where
   pub told : map (with_names text.details.nodes (message_names events)) text.log.events ≡ map without_asides events
   pub named : All (IsNamed text.details.nodes (message_names events)) text.log.events
   pub nodes : text.details.nodes ≡ node_names events
@@ -80,11 +80,11 @@ pub record IsRawLogOf (events : List NamedEvent) (text : LogText) : Type 0 where
   pub few_nodes : length text.details.nodes ≤ MAX_LOG_NODES
   pub few_messages : text.messages ≤ length text.log.events
   pub labels : (place : ℕ) → label_at text.details.labels place ≡ label_of_event events place
-  pub lines_rise : AllPairs (λ d e. d.line < e.line) text.log.events
+  pub lines_rise : LinesRise text.log.events
 
 -- so it has the events that records tell of, the questions that they ask and the files that they begin, in their order, and knows how many were left
 -- out, and why
-pub record IsRawTextOf (items : List LogItem) (text : LogText) : Type 0 where
+pub record IsRawTextOf (items : List LogItem) (text : ReadText) : Type 0 where
   pub log : IsRawLogOf (events_in items) text
   pub questions : map plain_asked text.details.questions ≡ questions_in items
   pub skipped : skipped_count text.details.skipped ≡ skip_count items
@@ -116,7 +116,7 @@ apart_count (Some n) messages count = messages + count
 
 -- the text has these events in their order: as they were read, each name has the number of its place, and messages without a name are of one name,
 -- the empty one; these were then told apart by who sent them with which stamp. Each label stands at its event's place, and lines rise
-pub record IsLogOf (events : List NamedEvent) (text : LogText) : Type 0 where
+pub record IsLogOf (events : List NamedEvent) (text : ReadText) : Type 0 where
   pub raw : List LogEvent
   pub told : map (with_names text.details.nodes (message_names events)) raw ≡ map without_asides events
   pub named : All (IsNamed text.details.nodes (message_names events)) raw
@@ -127,11 +127,11 @@ pub record IsLogOf (events : List NamedEvent) (text : LogText) : Type 0 where
   pub few_nodes : length text.details.nodes ≤ MAX_LOG_NODES
   pub few_messages : text.messages ≤ 2 * length text.log.events
   pub labels : (place : ℕ) → label_at text.details.labels place ≡ label_of_event events place
-  pub lines_rise : AllPairs (λ d e. d.line < e.line) text.log.events
+  pub lines_rise : LinesRise text.log.events
 
 -- the text has the events that records tell of, the questions that they ask and the files that they begin, in their order, and knows how many were left
 -- out, and why
-pub record IsTextOf (items : List LogItem) (text : LogText) : Type 0 where
+pub record IsTextOf (items : List LogItem) (text : ReadText) : Type 0 where
   pub log : IsLogOf (events_in items) text
   pub questions : map plain_asked text.details.questions ≡ questions_in items
   pub skipped : skipped_count text.details.skipped ≡ skip_count items
@@ -139,5 +139,5 @@ pub record IsTextOf (items : List LogItem) (text : LogText) : Type 0 where
   pub files : map (λ mark. mark.name) text.details.files ≡ file_names_in items
 
 -- how many records a text has
-abbrev pub record_count : LogText → ℕ
+abbrev pub record_count : ReadText → ℕ
 record_count text = length text.log.events + length text.details.questions + skipped_count text.details.skipped + length text.details.left_out

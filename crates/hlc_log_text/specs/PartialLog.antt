@@ -20,7 +20,6 @@ use Rattle.hlc_log_text.specs.declared.fault.LogTextFault.{LogTextFault}
 use Rattle.hlc_log_text.specs.declared.fault.LogTextFault.TheVariants as fault
 use Rattle.hlc_log_text.specs.declared.fault_rule.FaultRule.{FaultRule}
 use Rattle.hlc_log_text.specs.declared.fault_rule.FaultRule.TheVariants.{TellEach}
-use Rattle.hlc_log_text.specs.declared.log_text.LogText.{LogText}
 use Rattle.hlc_log_text.specs.declared.log_word.LogWord.{LogWord}
 use Rattle.hlc_log_text.specs.declared.partial_log.PartialLog.{PartialLog}
 use Rattle.hlc_log_text.specs.declared.sent_marks.SentMarks.{SentMarks}
@@ -30,6 +29,7 @@ use Rattle.hlc_log_text.specs.FaultRule.{leaves_out, leaves_sent}
 use Rattle.hlc_log_text.specs.Labels.{label_at}
 use Rattle.hlc_log_text.specs.LogDetails.{ToldDetails}
 use Rattle.hlc_log_text.specs.LogText.{IsRawTextOf, apart_count, apart_if, kind_message, kind_word, message_names, node_names, node_of, record_count, sender_of_event, unnamed_in}
+use Rattle.hlc_log_text.specs.ReadText.{ReadText}
 use Rattle.hlc_log_text.specs.Names.{with_name}
 use Rattle.hlc_log_text.specs.NamedEvent.{NamedEvent, if_message}
 use Rattle.hlc_log_text.specs.Question.{Asked}
@@ -69,7 +69,7 @@ details_with nodes partial = record {
 }
 
 -- what was read so far, as a text of its own
-abbrev pub text_of : PartialLog → LogText
+abbrev pub text_of : PartialLog → ReadText
 text_of partial = record {
   log = partial.log;
   message_names = partial.messages;
@@ -87,7 +87,7 @@ apart_log partial =
     let senders = nodes_named partial.nodes partial.senders (length partial.log.events) in
     record { events = apart_if (unnamed_in partial.messages) (length partial.messages) senders partial.log.events }
 
-abbrev pub apart_text : PartialLog → LogText
+abbrev pub apart_text : PartialLog → ReadText
 apart_text partial = record {
   log = apart_log partial;
   message_names = partial.messages;
@@ -96,7 +96,7 @@ apart_text partial = record {
 }
 
 -- what was read, with these names of nodes
-abbrev pub text_with : (nodes : List (List ℕ)) → PartialLog → LogText
+abbrev pub text_with : (nodes : List (List ℕ)) → PartialLog → ReadText
 text_with nodes partial = record {
   log = partial.log;
   message_names = partial.messages;

@@ -16,7 +16,6 @@ use Rattle.hlc_log_text.specs.declared.bad_log.BadLog.{BadLog}
 use Rattle.hlc_log_text.specs.declared.bad_log.BadLog.TheVariants as bad
 use Rattle.hlc_log_text.specs.declared.fault.LogTextFault.{LogTextFault}
 use Rattle.hlc_log_text.specs.declared.fault.LogTextFault.TheVariants as fault
-use Rattle.hlc_log_text.specs.declared.log_text.LogText.{LogText}
 use Rattle.hlc_log_text.specs.declared.skipped.Skipped.{Skipped}
 use Rattle.hlc_log_text.specs.declared.partial_log.PartialLog.{PartialLog}
 use Rattle.hlc_log_text.specs.declared.fault_rule.FaultRule.TheVariants.{TellEach}
@@ -24,6 +23,7 @@ use Rattle.hlc_log_text.specs.BadRecords.{MayBeLeftOut, bad_records_on, told_bef
 use Rattle.hlc_log_text.specs.FaultRule.{leaves_out}
 use Rattle.hlc_log_text.specs.LogItem.{LogItem, bad_lines_in, event_lines, events_in, marks_in}
 use Rattle.hlc_log_text.specs.LogText.{IsTextOf, node_names}
+use Rattle.hlc_log_text.specs.ReadText.{ReadText}
 use Rattle.hlc_log_text.specs.Skipped.{skipped_in}
 use Rattle.hlc_log_text.specs.PartialLog.{IsBadAfter, IsPartialLog, SaysAfter, text_with}
 
@@ -92,7 +92,7 @@ pub record IsReadInto (rules : LogRules) (most : ℕ) (bytes : Option (List ℕ)
 
 -- these bytes are records, so many at most, whose quotation marks are closed, and the text has their events, their questions and their files,
 -- and knows which were left out
-pub record IsReadWhole (rules : LogRules) (most : ℕ) (bytes : Option (List ℕ)) (text : LogText) : Type 0 where
+pub record IsReadWhole (rules : LogRules) (most : ℕ) (bytes : Option (List ℕ)) (text : ReadText) : Type 0 where
   pub records : List Fields
   pub items : List LogItem
   pub all : AreAllOf bytes records

@@ -87,7 +87,7 @@
 //!         NameKey::fixed(),
 //!     )
 //!     .ok()?;
-//!     Some(read.log.len())
+//!     Some(read.log().len())
 //! }
 //! ```
 //!

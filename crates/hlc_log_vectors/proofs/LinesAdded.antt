@@ -4,7 +4,7 @@ use Rattle.hlc_csv.specs.Rows.{Fields, text_of_row}
 use Rattle.hlc_explain.specs.Vectors.{vector_of}
 use Rattle.hlc_log.specs.CausalOrder.{place_at}
 use Rattle.hlc_log.specs.declared.log_event.LogEvent.{LogEvent}
-use Rattle.hlc_log_report.specs.InOrder.{skeleton_of}
+use Rattle.hlc_ordered_log.specs.InOrder.{skeleton_of}
 use Rattle.hlc_log_vectors.specs.EventRow.{event_row}
 use Rattle.hlc_log_vectors.specs.LogVectors.{event_of, event_text, plain_label}
 use Rattle.hlc_log_vectors.specs.NodeText.{node_text}

@@ -8,7 +8,7 @@ use Rattle.hlc_vector_text.specs.VectorLine.{vector_line}
 use Rattle.hlc_explain.specs.Vectors.{vector_of}
 use Rattle.hlc_log.specs.CausalOrder.{place_at}
 use Rattle.hlc_log.specs.declared.log_event.LogEvent.{LogEvent}
-use Rattle.hlc_log_report.specs.InOrder.{event_in_order, skeleton_of}
+use Rattle.hlc_ordered_log.specs.InOrder.{event_in_order, skeleton_of}
 use Rattle.hlc_log_text.specs.Labels.{label_at}
 use Rattle.hlc_log_vectors.specs.EventRow.{event_row}
 use Rattle.hlc_log_vectors.specs.NodeText.{node_text}

@@ -3,7 +3,7 @@
 ghost use Rattle.std.specs.Prelude.{◌≡◌, ◌++◌, ◌<◌, [], OnOk, length, option_map};
 ghost use Rattle.std.specs.Io.KnownBytes.{Appends};
 ghost use Rattle.hlc_explain.specs.Vectors.{vectors_of};
-ghost use Rattle.hlc_log_report.specs.InOrder.{skeleton_of};
+ghost use Rattle.hlc_ordered_log.specs.InOrder.{skeleton_of};
 ghost use Rattle.hlc_log_vectors.specs.LogVectors.{event_text, log_vector_text, plain_label};
 
 use crate::event_row::put_row;

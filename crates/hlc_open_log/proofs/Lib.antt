@@ -1,4 +1,3 @@
-pub mod FewMessages
 pub mod LabelsKept
 pub mod LinesKept
 pub mod NamesKept

@@ -9,9 +9,10 @@ use Rattle.hlc_log.specs.declared.log_event.LogEvent.{LogEvent}
 use Rattle.hlc_log.specs.declared.log_event.LogKind.{LogKind}
 use Rattle.hlc_log.specs.declared.resent.Resent.{Resent}
 use Rattle.hlc_log.proofs.ResentLogs.{resent_line, resent_size}
-use Rattle.hlc_log_report.specs.InOrder.{AreFilled}
-use Rattle.hlc_log_report.proofs.Filled.{filled_keeps}
-use Rattle.hlc_open_log.specs.Opened.{LinesRise, resent_apart}
+use Rattle.hlc_ordered_log.specs.InOrder.{AreFilled}
+use Rattle.hlc_ordered_log.proofs.Filled.{filled_keeps}
+use Rattle.hlc_log_text.specs.ReadText.{LinesRise}
+use Rattle.hlc_open_log.specs.Opened.{resent_apart}
 
 either_line : (test : Bool) (k : LogKind) (e : LogEvent) → (if test then record e { kind = k } else e).line ≡ e.line
 either_line true k e = refl

@@ -8,9 +8,10 @@ use Rattle.hlc_log.specs.declared.log_event.LogEvent.{LogEvent}
 use Rattle.hlc_log.specs.declared.resent.Resent.{Resent}
 use Rattle.hlc_log.proofs.ResentLogs.{resent_nodes}
 use Rattle.hlc_log.specs.declared.log_event.LogKind.{LogKind}
-use Rattle.hlc_log_report.specs.InOrder.{AreFilled, AreOfNodes}
-use Rattle.hlc_log_report.proofs.Filled.{filled_node}
-use Rattle.hlc_open_log.specs.Opened.{HaveNames, resent_apart}
+use Rattle.hlc_ordered_log.specs.InOrder.{AreFilled, AreOfNodes}
+use Rattle.hlc_ordered_log.proofs.Filled.{filled_node}
+use Rattle.hlc_log_text.specs.ReadText.{HaveNames}
+use Rattle.hlc_open_log.specs.Opened.{resent_apart}
 
 either_node : (test : Bool) (e : LogEvent) (kind : LogKind) → (if test then record e { kind = kind } else e).node ≡ e.node
 either_node true e kind = refl

@@ -1,43 +1,25 @@
 -- What is so of a log that is opened.
-use Rattle.std.proofs.Common.{◌≡◌, ◌∙◌, ◌<◌, ◌≤◌, ℕ, List, Option, ap, arith, length, subst, sym}
-use Rattle.std.specs.Prelude.{All}
+use Rattle.std.proofs.Common.{◌≡◌, ◌∙◌, ◌<◌, ℕ, List, Option, ap, length, subst, sym}
 use Rattle.std.specs.List.{filter_map}
-use Rattle.hlc_stamp.specs.declared.limits.TheConstants.{MAX_CAPACITY}
-use Rattle.hlc_log.specs.Events.{IsInRange, IsNumbered}
 use Rattle.hlc_log.specs.declared.log_event.LogEvent.{LogEvent}
 use Rattle.hlc_log.specs.declared.order_fault.OrderFault.{OrderFault}
-use Rattle.hlc_log_text.specs.LogItem.{events_in}
 use Rattle.hlc_log_text.specs.ReadLog.{IsReadWhole}
 use Rattle.hlc_log_text.specs.declared.fault_rule.FaultRule.{FaultRule}
 use Rattle.hlc_log_text.specs.declared.file_mark.FileMark.{FileMark}
 use Rattle.hlc_log_text.specs.declared.log_rules.LogRules.{LogRules}
-use Rattle.hlc_log_text.specs.declared.log_text.LogText.{LogText}
-use Rattle.hlc_log_text.proofs.NamedNodes.{read_names}
-use Rattle.hlc_open_log.specs.Opened.{HaveNames, IsOpen, IsOpenedOf, IsSoundText, OpenedLog, opened_events, resent_apart}
+use Rattle.hlc_log_text.specs.ReadText.{HaveNames, IsSoundText, ReadText}
+use Rattle.hlc_open_log.specs.Opened.{IsOpen, IsOpenedOf, OpenedLog, opened_events, resent_apart}
 use Rattle.hlc_open_log.specs.Unopened.{ExplainsOpenFault, HasNoOrder, TellsDisorder, bad_event, events_text, told_faults}
 use Rattle.hlc_open_log.specs.declared.bad_event.BadEvent.{BadEvent}
 use Rattle.hlc_open_log.specs.declared.bad_input.BadInput.TheVariants.{Events, Records}
 use Rattle.hlc_open_log.specs.declared.fault.OpenFault.{OpenFault}
 use Rattle.hlc_open_log.specs.declared.fault.OpenFault.TheVariants as fault
-use Rattle.hlc_open_log.proofs.FewMessages.{few_messages}
 use Rattle.hlc_open_log.proofs.LinesKept.{rise_apart, rise_filled, rise_kept}
 use Rattle.hlc_open_log.proofs.NamesKept.{names_apart, names_filled, names_kept}
 use Rattle.hlc_open_log.proofs.PartsOpened.{part_all, part_rises}
 
--- a log that was read suffices to open it
-pub sound_text : (rules : LogRules) (most : ℕ) (bytes : Option (List ℕ)) (text : LogText) → most ≤ MAX_CAPACITY → IsReadWhole rules most bytes text
-    → All (IsNumbered text.messages) text.log.events → All IsInRange text.log.events → IsSoundText text
-sound_text rules most bytes text few read numbered in_range = record {
-  numbered = numbered;
-  in_range = in_range;
-  messages = let messages = few_messages rules most bytes text read in omega (arith, messages, few);
-  rise = read.held.log.lines_rise;
-  few = read.held.log.few_nodes;
-  named = read_names (events_in read.items) text read.held.log;
-}
-
--- and is open then
-pub is_open : (rules : LogRules) (text : LogText) (opened : OpenedLog) → IsSoundText text → IsOpenedOf rules text opened
+-- a log that was read is open once it is opened
+pub is_open : (rules : LogRules) (text : ReadText) (opened : OpenedLog) → IsSoundText text → IsOpenedOf rules text opened
     → opened.log.nodes ≡ length opened.nodes → IsOpen opened
 is_open rules text opened sound is nodes =
     let events = resent_apart rules.resent text.messages text.log.events in
@@ -56,7 +38,7 @@ is_open rules text opened sound is nodes =
     }
 
 -- a fault of its order explains why a log that was read isn't opened
-pub explained : (rules : LogRules) (most : ℕ) (bytes : Option (List ℕ)) (text : LogText) → IsReadWhole rules most bytes text → (f : OpenFault)
+pub explained : (rules : LogRules) (most : ℕ) (bytes : Option (List ℕ)) (text : ReadText) → IsReadWhole rules most bytes text → (f : OpenFault)
     → TellsDisorder rules.faults text.details.files text.message_names (opened_events rules text.messages text.log.events) f
     → ExplainsOpenFault rules most bytes f
 explained rules most bytes text read (fault.Bad (Records records)) none = absurd none

@@ -15,7 +15,8 @@ use Rattle.hlc_log.proofs.KeptEvents.{those_exist}
 use Rattle.hlc_log_text.specs.declared.bad_log.BadLine.{BadLine}
 use Rattle.hlc_log_text.specs.declared.fault_rule.FaultRule.{FaultRule}
 use Rattle.hlc_log_text.specs.declared.fault_rule.FaultRule.TheVariants.{LeaveOut}
-use Rattle.hlc_open_log.specs.Opened.{IsPartOf, LinesRise}
+use Rattle.hlc_log_text.specs.ReadText.{LinesRise}
+use Rattle.hlc_open_log.specs.Opened.{IsPartOf}
 
 -- if an event waits, some are left out
 pub some_left : (events : List LogEvent) (kept left_out : List ℕ) → IsParted events kept left_out → (e : ℕ) → Waits events e → left_out ≢ []

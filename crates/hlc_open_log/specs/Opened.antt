@@ -1,15 +1,14 @@
 -- A log that was opened.
-use Rattle.std.specs.Prelude.{◌≡◌, ◌≢◌, ℕ, ◌+◌, ◌*◌, ◌<◌, ◌≤◌, All, AllPairs, List, [], ◌∷◌, ◌++◌, Option, Some, None, if◌then◌else◌, length, map, slice_get}
-use Rattle.hlc_stamp.specs.declared.limits.TheConstants.{MAX_CAPACITY}
+use Rattle.std.specs.Prelude.{◌≡◌, ◌≢◌, ℕ, ◌+◌, ◌≤◌, List, [], ◌∷◌, ◌++◌, Option, Some, None, if◌then◌else◌, length, map, slice_get}
 use Rattle.hlc_log.specs.declared.log_event.TheConstants.{MAX_LOG_NODES}
-use Rattle.hlc_log.specs.Events.{IsInRange, IsNumbered, event_at}
+use Rattle.hlc_log.specs.Events.{event_at}
 use Rattle.hlc_log.specs.Parted.{IsParted}
 use Rattle.hlc_log.specs.Resent.{resent_count, with_resent}
 use Rattle.hlc_log.specs.StandingOrder.{arranged}
 use Rattle.hlc_log.specs.Unsent.{unsent_count, with_unsent}
 use Rattle.hlc_log.specs.declared.log_event.LogEvent.{LogEvent}
 use Rattle.hlc_log.specs.declared.resent.Resent.{Resent}
-use Rattle.hlc_log_report.specs.InOrder.{AreFilled, IsInOrder, LogInOrder}
+use Rattle.hlc_ordered_log.specs.InOrder.{AreFilled, IsInOrder, LogInOrder}
 use Rattle.hlc_log_text.specs.Labels.{label_at}
 use Rattle.hlc_log_text.specs.ReadLog.{IsReadWhole}
 use Rattle.hlc_log_text.specs.StampForms.{greatest_c}
@@ -19,7 +18,7 @@ use Rattle.hlc_log_text.specs.declared.fault_rule.FaultRule.{FaultRule}
 use Rattle.hlc_log_text.specs.declared.fault_rule.FaultRule.TheVariants.{LeaveOut}
 use Rattle.hlc_log_text.specs.declared.file_mark.FileMark.{FileMark}
 use Rattle.hlc_log_text.specs.declared.log_rules.LogRules.{LogRules}
-use Rattle.hlc_log_text.specs.declared.log_text.LogText.{LogText}
+use Rattle.hlc_log_text.specs.ReadText.{HaveNames, LinesRise, ReadText}
 use Rattle.hlc_log_text.specs.declared.question.LogQuestion.{LogQuestion}
 use Rattle.hlc_log_text.specs.declared.skipped.Skipped.{Skipped}
 
@@ -37,14 +36,6 @@ pub record OpenedLog : Type 0 where
   pub skipped : Option Skipped
   pub left_out : List BadLine
   pub full : ℕ
-
--- the record of each event begins on a later line than those before it
-abbrev pub LinesRise : List LogEvent → Type 0
-LinesRise events = AllPairs (λ d e. d.line < e.line) events
-
--- each event is of a node that has a name
-abbrev pub HaveNames : List LogEvent → (nodes : List (List ℕ)) → Type 0
-HaveNames events nodes = All (λ event. event.node.0 < length nodes) events
 
 -- what is so of each opened log
 pub record IsOpen (opened : OpenedLog) : Type 0 where
@@ -138,7 +129,7 @@ pub record IsOrderedOf (rules : LogRules) (messages : ℕ) (events : List LogEve
   pub again : resent ≡ resent_of rules.resent events
 
 -- a log that was read is opened, by the rules
-pub record IsOpenedOf (rules : LogRules) (text : LogText) (opened : OpenedLog) : Type 0 where
+pub record IsOpenedOf (rules : LogRules) (text : ReadText) (opened : OpenedLog) : Type 0 where
   pub kept : Option (List ℕ)
   pub lines : List BadLine
   pub ordered : IsOrderedOf rules text.messages text.log.events kept lines opened.log opened.unsent opened.resent
@@ -152,13 +143,4 @@ pub record IsOpenedOf (rules : LogRules) (text : LogText) (opened : OpenedLog) :
 
 -- the bytes are a log of at most so many records, which is opened
 abbrev pub IsOpened : LogRules → (most : ℕ) → (bytes : Option (List ℕ)) → OpenedLog → Type 0
-IsOpened rules most bytes opened = (text : LogText) × IsReadWhole rules most bytes text × IsOpenedOf rules text opened
-
--- what is so of each log that was read
-pub record IsSoundText (text : LogText) : Type 0 where
-  pub numbered : All (IsNumbered text.messages) text.log.events
-  pub in_range : All IsInRange text.log.events
-  pub messages : text.messages ≤ 2 * MAX_CAPACITY
-  pub rise : LinesRise text.log.events
-  pub few : length text.details.nodes ≤ MAX_LOG_NODES
-  pub named : HaveNames text.log.events text.details.nodes
+IsOpened rules most bytes opened = (text : ReadText) × IsReadWhole rules most bytes text × IsOpenedOf rules text opened

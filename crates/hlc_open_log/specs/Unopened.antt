@@ -22,7 +22,7 @@ use Rattle.hlc_log_text.specs.declared.fault_rule.FaultRule.TheVariants.{LeaveOu
 use Rattle.hlc_log_text.specs.declared.file_mark.FileMark.{FileMark}
 use Rattle.hlc_log_text.specs.declared.location.Location.{Location}
 use Rattle.hlc_log_text.specs.declared.log_rules.LogRules.{LogRules}
-use Rattle.hlc_log_text.specs.declared.log_text.LogText.{LogText}
+use Rattle.hlc_log_text.specs.ReadText.{ReadText}
 use Rattle.hlc_open_log.specs.Opened.{opened_events}
 use Rattle.hlc_open_log.specs.declared.bad_event.BadEvent.{BadEvent}
 use Rattle.hlc_open_log.specs.declared.bad_event.Disorder.{Disorder}
@@ -142,7 +142,7 @@ AreRecordsBad rules most bytes told = IsReadUpToBad rules most bytes told ⊎ Is
 -- the bytes are a log that has no causal order, and these of its events are told
 abbrev pub IsOrderBad : LogRules → (most : ℕ) → (bytes : Option (List ℕ)) → List BadEvent → Type 0
 IsOrderBad rules most bytes told =
-    (text : LogText) × IsReadWhole rules most bytes text
+    (text : ReadText) × IsReadWhole rules most bytes text
     × HasNoOrder rules.faults text.details.files text.message_names (opened_events rules text.messages text.log.events) told
 
 -- the bytes can't be opened as a log for this reason

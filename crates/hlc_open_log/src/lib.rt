@@ -5,7 +5,7 @@
 //!
 //! - `open_log` reads a log to its end, takes messages that are sent again and receives of messages that nobody sends as `LogRules` say, and puts
 //!   its events in a causal order, in which those without a stamp are given theirs. Events that have no place in any are left out where bad records are.
-//! - `OpenLog` has the log in order (`hlc_log_report`), what it tells beside its events (`LogDetails` of `hlc_log_text`), how many receives were taken
+//! - `OpenLog` has the log in order (`hlc_ordered_log`), what it tells beside its events (`LogDetails` of `hlc_log_text`), how many receives were taken
 //!   as local events, how many sends sent a message again, and the greatest `c` that the form of its stamps can write. What is so
 //!   of each such log, `ordered` says: it is in order, its lines rise, and its nodes have names.
 //! - `OpenFault` says why a log could not be opened. For input that is bad, `BadInput` has the bad records, or the events for which there is no

@@ -2,8 +2,8 @@ ghost use Rattle.std.specs.Prelude.{◌≡◌, option_map};
 ghost use Rattle.hlc_stamp.specs.Ids.{places_of};
 ghost use Rattle.hlc_open_log.specs.Opened.{place_read};
 
-use hlc_log_report::OrderedLog;
 use hlc_log_text::{BadLine, Files, LogDetails, LogQuestion, Names, Skipped};
+use hlc_ordered_log::OrderedLog;
 use hlc_stamp::EventId;
 use std::alloc::{AllocError, Global};
 use std::marker::Model;
@@ -47,9 +47,10 @@ impl OpenLog {
     ghost use Rattle.hlc_stamp.specs.Ids.{places_of};
     ghost use Rattle.hlc_log.specs.CausalOrder.{IsCausalOrder};
     ghost use Rattle.hlc_log.specs.declared.log_event.TheConstants.{MAX_LOG_NODES};
-    ghost use Rattle.hlc_log_report.specs.InOrder.{IsInOrder};
+    ghost use Rattle.hlc_ordered_log.specs.InOrder.{IsInOrder};
     ghost use Rattle.hlc_log_text.specs.Labels.{label_at};
-    ghost use Rattle.hlc_open_log.specs.Opened.{IsOpen, IsReordered, LinesRise};
+    ghost use Rattle.hlc_log_text.specs.ReadText.{LinesRise};
+    ghost use Rattle.hlc_open_log.specs.Opened.{IsOpen, IsReordered};
 
     /// The log in order.
     pub fn ordered(&self) -> &OrderedLog

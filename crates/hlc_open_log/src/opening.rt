@@ -8,8 +8,8 @@ ghost use Rattle.hlc_log.specs.Events.{IsInRange, IsNumbered};
 ghost use Rattle.hlc_log.specs.Faults.{IsFaultOf};
 ghost use Rattle.hlc_log.specs.Messages.{AreMessagesSound};
 ghost use Rattle.hlc_log.specs.Unsent.{unsent_count, with_unsent};
-ghost use Rattle.hlc_log_report.specs.InOrder.{AreOfNodes};
-ghost use Rattle.hlc_open_log.specs.Opened.{IsOpen, IsOpened, IsOpenedOf, IsOrderedOf, IsPartOf, IsSoundText, cycle_line, opened_events, resent_apart, resent_of};
+ghost use Rattle.hlc_ordered_log.specs.InOrder.{AreOfNodes};
+ghost use Rattle.hlc_open_log.specs.Opened.{IsOpen, IsOpened, IsOpenedOf, IsOrderedOf, IsPartOf, cycle_line, opened_events, resent_apart, resent_of};
 ghost use Rattle.hlc_open_log.specs.Unopened.{ExplainsOpenFault, IsRefused, TellsDisorder, bad_event, disorder_of, message_name, order_fault_place, told_faults};
 
 use crate::bad_event::{BadEvent, Disorder};
@@ -19,10 +19,10 @@ use crate::opened_log::OpenLog;
 use hlc_log::{
     Log, LogKind, MAX_LOG_NODES, OrderFault, Parted, causal_order, faults_of_messages, part,
 };
-use hlc_log_report::OrderedLog;
 use hlc_log_text::{
     BadLine, BadLog, FaultRule, Files, LogRules, LogText, NameKey, Names, read_log,
 };
+use hlc_ordered_log::OrderedLog;
 use hlc_pages::Bytes;
 use hlc_stamp::{EventId, MAX_CAPACITY};
 use std::alloc::{AllocError, Global};
@@ -362,22 +362,17 @@ fn in_order(
 
 // Opens a log that was read.
 fn open_text(alloc: Global, text: LogText, rules: LogRules) -> Result<OpenLog, OpenFault>
-    requires { IsSoundText text }
     ensures opened { IfOk result (IsOpenedOf rules text) }
     ensures fault { IfErr result (TellsDisorder rules.faults text.details.files text.message_names (opened_events rules text.messages text.log.events)) }
 {
-    let LogText {
-        log,
-        message_names,
-        messages,
-        mut details,
-    } = text;
+    let messages = text.messages();
+    let (log, message_names, mut details) = text.into_parts();
     let ordered = in_order(
         alloc,
         log,
         details.files(),
         message_names,
-        messages as u32,
+        messages,
         details.nodes().len() as u16,
         rules,
     )?;

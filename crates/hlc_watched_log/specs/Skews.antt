@@ -4,8 +4,8 @@ use Rattle.std.specs.Fmt.{signed_decimal}
 use Rattle.std.specs.BTreeMap.{insert_entry, is_at}
 use Rattle.std.specs.Map.{lookup}
 use Rattle.hlc_csv.specs.Rows.{Fields}
-use Rattle.hlc_log_report.specs.Skew.{by_nodes}
-use Rattle.hlc_log_report.specs.declared.skew_nodes.SkewNodes.{SkewNodes}
+use Rattle.hlc_ordered_log.specs.Skew.{by_nodes}
+use Rattle.hlc_ordered_log.specs.declared.skew_nodes.SkewNodes.{SkewNodes}
 use Rattle.hlc_log_text.specs.LogText.{name_of}
 use Rattle.hlc_watch.specs.declared.records.Claimed.{Claimed}
 use Rattle.hlc_watch.specs.declared.records.Records.{Records}

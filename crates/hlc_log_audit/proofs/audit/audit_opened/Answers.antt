@@ -1,5 +1,5 @@
 use Rattle.std.proofs.Common.{◌∙◌, ap, length, subst}
-use Rattle.hlc_log_report.specs.InOrder.{LogInOrder}
+use Rattle.hlc_ordered_log.specs.InOrder.{LogInOrder}
 use Rattle.hlc_log_audit.specs.Audit.{IsOutcome}
 use Rattle.hlc_log_audit.proofs.audit.audit_opened.Goals as goal
 

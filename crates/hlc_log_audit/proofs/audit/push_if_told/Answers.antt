@@ -1,6 +1,6 @@
 use Rattle.std.proofs.Common.{◌≡◌, ◌++◌, ◌∙◌, Bool, true, List, ap, subst, sym}
 use Rattle.std.proofs.lemmas.Result.{on_ok_weaker}
-use Rattle.hlc_log_report.specs.Messages.{message_counts}
+use Rattle.hlc_ordered_log.specs.Messages.{message_counts}
 use Rattle.hlc_log_text.specs.declared.question.LogQuestion.{LogQuestion}
 use Rattle.hlc_log_audit.specs.Audit.{IsReportIf, all_asked, is_reported, missing_rows, taken_rows}
 use Rattle.hlc_log_audit.specs.LeftOut.{left_out_rows}

@@ -1,8 +1,8 @@
 use Rattle.std.proofs.Common.{◌∙◌, ℕ, ◌<◌, length, arith, ap, sym}
 use Rattle.hlc_log.specs.OrderSkeleton.{index_in}
 use Rattle.hlc_log.proofs.OrderSkeletons.{index_of_place}
-use Rattle.hlc_log_report.specs.Found.{is_swapped_in}
-use Rattle.hlc_log_report.proofs.Ordering.{order_len}
+use Rattle.hlc_ordered_log.specs.Found.{is_swapped_in}
+use Rattle.hlc_ordered_log.proofs.Ordering.{order_len}
 use Rattle.hlc_log_audit.proofs.causes.is_swapped_at.Goals as goal
 
 pub returns : goal.returns

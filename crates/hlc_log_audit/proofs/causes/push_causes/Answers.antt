@@ -1,7 +1,7 @@
 use Rattle.std.proofs.Common.{◌≡◌, ◌∙◌, Bool, List, false, length, replicate, subst, sym, true}
 use Rattle.hlc_causes.specs.Causes.{no_causes}
 use Rattle.hlc_csv.specs.Rows.{AddsText, Fields, text_of}
-use Rattle.hlc_log_report.specs.InOrder.{IsCarriedRightly}
+use Rattle.hlc_ordered_log.specs.InOrder.{IsCarriedRightly}
 use Rattle.hlc_log_audit.specs.Audit.{CarriesWrongly}
 use Rattle.hlc_log_audit.proofs.RowsAdded.{adds_none}
 use Rattle.hlc_log_audit.proofs.CauseRows.{no_cause_rows, none_named}

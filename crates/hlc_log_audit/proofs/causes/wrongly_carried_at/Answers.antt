@@ -3,8 +3,8 @@ use Rattle.hlc_stamp.specs.declared.id.EventId.{EventId}
 use Rattle.hlc_causality.specs.Neighbours.{place_of}
 use Rattle.hlc_log.specs.OrderSkeleton.{index_in}
 use Rattle.hlc_log.proofs.OrderSkeletons.{index_of_place}
-use Rattle.hlc_log_report.specs.InOrder.{wrong_of}
-use Rattle.hlc_log_report.proofs.Ordering.{order_len}
+use Rattle.hlc_ordered_log.specs.InOrder.{wrong_of}
+use Rattle.hlc_ordered_log.proofs.Ordering.{order_len}
 use Rattle.hlc_log_audit.proofs.EventsInOrder.{wrong_exists}
 use Rattle.hlc_log_audit.proofs.causes.wrongly_carried_at.Goals as goal
 

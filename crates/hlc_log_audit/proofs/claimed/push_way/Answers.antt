@@ -5,8 +5,8 @@ use Rattle.std.proofs.lemmas.Result.{on_ok_weaker}
 use Rattle.hlc_causality.specs.Assignment.{pair_at}
 use Rattle.hlc_answers.specs.Answer.{Answer, answer_row, plain_answer, way_answer}
 use Rattle.hlc_csv.specs.Rows.{AddsRow, Fields}
-use Rattle.hlc_log_report.specs.InOrder.{claimed_of, line_in, skeleton_of}
-use Rattle.hlc_log_report.proofs.EventsInOrder.{length-claimed_of, length-skeleton_of}
+use Rattle.hlc_ordered_log.specs.InOrder.{claimed_of, line_in, skeleton_of}
+use Rattle.hlc_ordered_log.proofs.EventsInOrder.{length-claimed_of, length-skeleton_of}
 use Rattle.hlc_log_text.specs.Files.{line_text}
 use Rattle.hlc_log_audit.specs.Answers.{TellsAnswer, claimed_fields}
 use Rattle.hlc_log_audit.specs.ClaimedWay.{claimed_way}

@@ -3,9 +3,9 @@ use Rattle.std.specs.Prelude.{All, IfOk}
 use Rattle.std.proofs.lemmas.Result.{IfOk-weaker}
 use Rattle.hlc_stamp.specs.Ids.{places_of}
 use Rattle.hlc_causality.specs.Causality.{Skeleton}
-use Rattle.hlc_log_report.specs.InOrder.{claimed_of, skeleton_of}
+use Rattle.hlc_ordered_log.specs.InOrder.{claimed_of, skeleton_of}
 use Rattle.hlc_log_audit.specs.ClaimedWay.{claimed_way}
-use Rattle.hlc_log_report.proofs.EventsInOrder.{length-claimed_of, length-skeleton_of}
+use Rattle.hlc_ordered_log.proofs.EventsInOrder.{length-claimed_of, length-skeleton_of}
 use Rattle.hlc_log_audit.proofs.Ways.{claimed_way_within}
 use Rattle.hlc_log_audit.proofs.claimed.way_at.Goals as goal
 

@@ -1,7 +1,7 @@
 use Rattle.std.proofs.Common.{◌∙◌, ap, arith, length}
 use Rattle.hlc_causality.specs.Causality.{Skeleton}
 use Rattle.hlc_causality.specs.ClockEvents.{ClockEvents}
-use Rattle.hlc_log_report.proofs.EventsInOrder.{length-clocks_of, length-skeleton_of}
+use Rattle.hlc_ordered_log.proofs.EventsInOrder.{length-clocks_of, length-skeleton_of}
 use Rattle.hlc_log_audit.proofs.DriftEvents.{furthest_exists, no_drift, origin_renamed, some_drift}
 use Rattle.hlc_log_audit.proofs.drift.drift_from.Goals as goal
 

@@ -6,8 +6,8 @@ use Rattle.hlc_verdict.specs.declared.audit_fault.AuditFault.{AuditFault}
 use Rattle.hlc_answers.specs.Answer.{Answer, answer_of}
 use Rattle.hlc_answers.specs.EventQuestion.{can_be_asked, plain_question}
 use Rattle.hlc_answers.proofs.Found.{answer_within}
-use Rattle.hlc_log_report.specs.InOrder.{clocks_of, skeleton_of}
-use Rattle.hlc_log_report.proofs.EventsInOrder.{length-clocks_of, length-skeleton_of}
+use Rattle.hlc_ordered_log.specs.InOrder.{clocks_of, skeleton_of}
+use Rattle.hlc_ordered_log.proofs.EventsInOrder.{length-clocks_of, length-skeleton_of}
 use Rattle.hlc_log_audit.specs.Answers.{found_in}
 use Rattle.hlc_log_audit.proofs.event_answer.answer_at.Goals as goal
 

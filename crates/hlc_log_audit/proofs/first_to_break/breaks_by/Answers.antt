@@ -1,6 +1,6 @@
 use Rattle.std.proofs.Common.{◌∙◌, ◌<◌, ap, arith, length, sym}
-use Rattle.hlc_log_report.specs.InOrder.{clocks_of}
-use Rattle.hlc_log_report.proofs.EventsInOrder.{length-clocks_of, length-skeleton_of}
+use Rattle.hlc_ordered_log.specs.InOrder.{clocks_of}
+use Rattle.hlc_ordered_log.proofs.EventsInOrder.{length-clocks_of, length-skeleton_of}
 use Rattle.hlc_log_audit.specs.FirstToBreak.{is_told_by}
 use Rattle.hlc_log_audit.proofs.FirstToBreak.{breaks_told}
 use Rattle.hlc_log_audit.proofs.first_to_break.breaks_by.Goals as goal

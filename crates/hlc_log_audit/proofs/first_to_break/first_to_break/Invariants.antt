@@ -1,6 +1,6 @@
 use Rattle.std.proofs.Common.{◌≡◌, ℕ, ◌<◌}
 use Rattle.hlc_causality.specs.Causality.{skeleton_at}
-use Rattle.hlc_log_report.specs.InOrder.{skeleton_of}
+use Rattle.hlc_ordered_log.specs.InOrder.{skeleton_of}
 use Rattle.hlc_log_audit.specs.FirstToBreak.{BreaksBy}
 use Rattle.hlc_log_audit.proofs.first_to_break.first_to_break.Given as goal
 

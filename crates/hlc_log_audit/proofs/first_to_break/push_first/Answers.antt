@@ -2,7 +2,7 @@ use Rattle.std.proofs.Common.{◌≡◌, ◌∙◌, ℕ, List, [], ◌∷◌, Op
 use Rattle.std.specs.Prelude.{codes, position}
 use Rattle.std.specs.Str.{bytes_eq}
 use Rattle.std.proofs.lemmas.Result.{on_ok_weaker}
-use Rattle.hlc_log_report.specs.InOrder.{LogInOrder}
+use Rattle.hlc_ordered_log.specs.InOrder.{LogInOrder}
 use Rattle.hlc_log_audit.specs.Answers.{AnswersFirst}
 use Rattle.hlc_log_audit.specs.FirstToBreak.{NamesFirstToBreak}
 use Rattle.hlc_log_audit.proofs.first_to_break.push_first.Goals as goal

@@ -2,7 +2,7 @@ use Rattle.std.proofs.Common.{◌<◌, ℕ, length, arith, subst}
 use Rattle.std.proofs.lemmas.List.{length-map}
 use Rattle.hlc_stamp.specs.Ids.{places_of}
 use Rattle.hlc_stamp.specs.declared.id.EventId.{EventId}
-use Rattle.hlc_log_report.proofs.Ordering.{place_here}
+use Rattle.hlc_ordered_log.proofs.Ordering.{place_here}
 use Rattle.hlc_log_audit.proofs.lines.lines_of.Goals as goal
 
 pub event-requires : goal.event-requires

@@ -1,6 +1,6 @@
 use Rattle.std.proofs.Common.{◌≡◌, map, take}
 use Rattle.hlc_stamp.specs.Ids.{places_of}
-use Rattle.hlc_log_report.specs.InOrder.{line_in}
+use Rattle.hlc_ordered_log.specs.InOrder.{line_in}
 use Rattle.hlc_log_audit.proofs.lines.lines_of.Given as goal
 
 -- the lines of the events so far are there

@@ -2,8 +2,8 @@ use Rattle.std.proofs.Common.{◌<◌, ◌∙◌, ℕ, ap, arith, length, subst,
 use Rattle.hlc_causality.specs.Causality.{Skeleton, SkeletonEvent, skeleton_at}
 use Rattle.hlc_log.specs.Events.{event_at}
 use Rattle.hlc_log.proofs.OrderSkeletons.{skeleton_in_at}
-use Rattle.hlc_log_report.proofs.EventsInOrder.{length-skeleton_of}
-use Rattle.hlc_log_report.proofs.Ordering.{order_len}
+use Rattle.hlc_ordered_log.proofs.EventsInOrder.{length-skeleton_of}
+use Rattle.hlc_ordered_log.proofs.Ordering.{order_len}
 use Rattle.hlc_log_audit.proofs.EventsInOrder.{node_exists}
 use Rattle.hlc_log_audit.proofs.overs.node_at.Goals as goal
 

@@ -2,7 +2,7 @@ use Rattle.hlc_log_text.specs.declared.file_mark.FileMark.{FileMark}
 use Rattle.std.proofs.Common.{List, ℕ, rules, subst}
 use Rattle.std.specs.Prelude.{OnOk}
 use Rattle.hlc_csv.specs.Rows.{AddsRow, Fields}
-use Rattle.hlc_log_report.specs.InOrder.{LogInOrder}
+use Rattle.hlc_ordered_log.specs.InOrder.{LogInOrder}
 use Rattle.hlc_log_audit.specs.Report.{over_fields}
 use Rattle.hlc_log_audit.proofs.overs.push_over.Goals as goal
 

@@ -1,6 +1,6 @@
 use Rattle.std.proofs.Common.{◌≡◌, List, Option, ℕ, length, refl, subst, sym}
 use Rattle.std.proofs.lemmas.Result.{on_ok_weaker}
-use Rattle.hlc_log_report.specs.InOrder.{LogInOrder}
+use Rattle.hlc_ordered_log.specs.InOrder.{LogInOrder}
 use Rattle.hlc_log_audit.specs.OverLimit.{AreOvers}
 use Rattle.hlc_log_audit.specs.Report.{AreOverRows, over_rows}
 use Rattle.hlc_log_audit.specs.declared.over.Over.{Over}

@@ -1,8 +1,8 @@
 use Rattle.std.proofs.lemmas.Result.{IfOk-weaker}
 use Rattle.std.proofs.Common.{◌≡◌, ◌∙◌, ◌∷◌, ap, arith, length, subst, sym}
 use Rattle.hlc_causality.specs.Causality.{Skeleton}
-use Rattle.hlc_log_report.specs.InOrder.{claimed_of}
-use Rattle.hlc_log_report.proofs.EventsInOrder.{length-claimed_of, length-skeleton_of}
+use Rattle.hlc_ordered_log.specs.InOrder.{claimed_of}
+use Rattle.hlc_ordered_log.proofs.EventsInOrder.{length-claimed_of, length-skeleton_of}
 use Rattle.hlc_log_audit.specs.ClaimedWay.{claimed_way}
 use Rattle.hlc_log_audit.proofs.OverRows.{origin_is}
 use Rattle.hlc_log_audit.proofs.overs.told_origin.Goals as goal

@@ -1,9 +1,9 @@
 use Rattle.std.proofs.Common.{◌∙◌, ◌++◌, ◌∷◌, [], ℕ, List, ap, length, map, refl, sym}
 use Rattle.std.proofs.lemmas.Result.{on_ok_weaker}
 use Rattle.hlc_csv.specs.Rows.{Fields}
-use Rattle.hlc_log_report.specs.InOrder.{LogInOrder}
-use Rattle.hlc_log_report.specs.Messages.{message_counts}
-use Rattle.hlc_log_report.specs.declared.messages.MessageCounts.{MessageCounts}
+use Rattle.hlc_ordered_log.specs.InOrder.{LogInOrder}
+use Rattle.hlc_ordered_log.specs.Messages.{message_counts}
+use Rattle.hlc_ordered_log.specs.declared.messages.MessageCounts.{MessageCounts}
 use Rattle.hlc_log_audit.specs.Report.{cause_rows, count_rows, message_row, node_rows, skew_row, unit_rows}
 use Rattle.hlc_log_audit.proofs.RowsAdded.{adds_joined, adds_one}
 use Rattle.hlc_log_audit.proofs.report.push_report.Goals as goal

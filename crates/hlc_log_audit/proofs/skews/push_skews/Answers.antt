@@ -2,11 +2,11 @@ use Rattle.std.proofs.Common.{◌≡◌, ◌∙◌, ◌++◌, ◌∷◌, [], IfS
 use Rattle.std.specs.Map.Iter.{deref_pair}
 use Rattle.std.proofs.lemmas.Map.Iter.{btree_map_turn}
 use Rattle.hlc_csv.specs.Rows.{AddsText, text_of}
-use Rattle.hlc_log_report.specs.InOrder.{skeleton_of}
-use Rattle.hlc_log_report.specs.Skew.{Skews, skew_between}
-use Rattle.hlc_log_report.specs.declared.skew.Skew.{Skew}
-use Rattle.hlc_log_report.specs.declared.skew_nodes.SkewNodes.{SkewNodes}
-use Rattle.hlc_log_report.proofs.SkewOrder.{by_nodes_total}
+use Rattle.hlc_ordered_log.specs.InOrder.{skeleton_of}
+use Rattle.hlc_ordered_log.specs.Skew.{Skews, skew_between}
+use Rattle.hlc_ordered_log.specs.declared.skew.Skew.{Skew}
+use Rattle.hlc_ordered_log.specs.declared.skew_nodes.SkewNodes.{SkewNodes}
+use Rattle.hlc_ordered_log.proofs.SkewOrder.{by_nodes_total}
 use Rattle.hlc_log_audit.specs.Report.{IsSkewOfEvents, skew_row}
 use Rattle.hlc_log_audit.proofs.EventsInOrder.{skew_of_events}
 use Rattle.hlc_log_audit.proofs.RowsAdded.{adds_none, adds_row}

@@ -1,6 +1,6 @@
 use Rattle.std.proofs.Common.{◌≡◌, ◌++◌, map}
 use Rattle.hlc_csv.specs.Rows.{AddsText, text_of}
-use Rattle.hlc_log_report.specs.Skew.{Skews}
+use Rattle.hlc_ordered_log.specs.Skew.{Skews}
 use Rattle.hlc_log_audit.specs.Report.{skew_row}
 use Rattle.hlc_log_audit.proofs.skews.push_skews.Given as goal
 

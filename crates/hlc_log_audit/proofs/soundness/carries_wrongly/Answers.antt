@@ -2,7 +2,7 @@ use Rattle.std.proofs.Common.{◌≡◌, ◌∙◌, true, ℕ, Option, Some, Non
 use Rattle.std.specs.Prelude.{is_some}
 use Rattle.hlc_stamp.specs.declared.id.EventId.{EventId}
 use Rattle.hlc_causality.specs.Neighbours.{place_of}
-use Rattle.hlc_log_report.proofs.Ordering.{order_len}
+use Rattle.hlc_ordered_log.proofs.Ordering.{order_len}
 use Rattle.hlc_log_audit.proofs.soundness.carries_wrongly.Goals as goal
 
 named : (o : Option EventId) → is_some o ≡ true → (d : ℕ) × (place_of o ≡ Some d)

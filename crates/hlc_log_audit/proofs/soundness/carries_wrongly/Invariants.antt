@@ -1,5 +1,5 @@
 use Rattle.std.proofs.Common.{◌≡◌, None, ℕ, ◌<◌}
-use Rattle.hlc_log_report.specs.InOrder.{wrong_of}
+use Rattle.hlc_ordered_log.specs.InOrder.{wrong_of}
 use Rattle.hlc_log_audit.proofs.soundness.carries_wrongly.Given as goal
 
 -- no message so far carried another stamp

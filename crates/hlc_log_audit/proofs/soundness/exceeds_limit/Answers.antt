@@ -1,5 +1,5 @@
 use Rattle.std.proofs.Common.{Option, arith, subst}
-use Rattle.hlc_log_report.proofs.EventsInOrder.{length-skeleton_of}
+use Rattle.hlc_ordered_log.proofs.EventsInOrder.{length-skeleton_of}
 use Rattle.hlc_log_audit.specs.Audit.{ExceedsLimit}
 use Rattle.hlc_log_audit.proofs.soundness.exceeds_limit.Goals as goal
 

@@ -1,6 +1,6 @@
 use Rattle.std.proofs.Common.{◌<◌, ap, arith, length, rules}
 use Rattle.hlc_causality.specs.Causality.{Skeleton}
-use Rattle.hlc_log_report.proofs.EventsInOrder.{length-skeleton_of}
+use Rattle.hlc_ordered_log.proofs.EventsInOrder.{length-skeleton_of}
 use Rattle.hlc_log_audit.proofs.soundness.is_beyond.Goals as goal
 
 pub unwrap-requires : goal.unwrap-requires

@@ -1,10 +1,10 @@
 use Rattle.std.proofs.Common.{◌≡◌, ◌∙◌, Bool, false, inl, inr, sym, true, ℕ}
 use Rattle.hlc_log_text.specs.StampForms.{greatest_c}
-use Rattle.hlc_log_report.specs.InOrder.{LogInOrder}
-use Rattle.hlc_log_report.specs.declared.counts.Counts.{Counts}
+use Rattle.hlc_ordered_log.specs.InOrder.{LogInOrder}
+use Rattle.hlc_ordered_log.specs.declared.counts.Counts.{Counts}
 use Rattle.std.specs.Prelude.{◌↔◌, IsTrue}
 use Rattle.hlc_log_audit.specs.Audit.{CarriesWrongly, IsBroken, TellsDisorder}
-use Rattle.hlc_log_report.specs.Counts.{AreCounted}
+use Rattle.hlc_ordered_log.specs.Counts.{AreCounted}
 use Rattle.hlc_log_audit.proofs.soundness.outcome.Goals as goal
 use Rattle.hlc_log_audit.proofs.soundness.outcome.Goals.{then-breaks_order-via-then-breaks_order, then-breaks_order-via-else-breaks_order+then-carries_wrongly}
 

@@ -3,8 +3,8 @@ use Rattle.hlc_stamp.specs.Order.{Pair}
 use Rattle.hlc_causality.specs.Causality.{Skeleton, skeleton_at}
 use Rattle.hlc_causality.specs.NodeEvents.{drift_at}
 use Rattle.hlc_explain.proofs.KeptEvents.{drift_kept, node_kept}
-use Rattle.hlc_log_report.specs.InOrder.{skeleton_of}
-use Rattle.hlc_log_report.proofs.EventsInOrder.{length-skeleton_of}
+use Rattle.hlc_ordered_log.specs.InOrder.{skeleton_of}
+use Rattle.hlc_ordered_log.proofs.EventsInOrder.{length-skeleton_of}
 use Rattle.hlc_log_audit.specs.Tally.{no_tally, with_event}
 use Rattle.hlc_log_audit.specs.declared.tally.Furthest.{Furthest}
 use Rattle.hlc_log_audit.specs.declared.tally.NodeTally.{NodeTally}

@@ -3,7 +3,7 @@ use Rattle.hlc_diagram.specs.Picture.{picture_text}
 use Rattle.hlc_diagram.specs.declared.view.View.{View}
 use Rattle.hlc_log_picture.specs.Drawn.{drawn_log}
 use Rattle.hlc_log_picture.specs.StampOrder.{IsInStampOrder}
-use Rattle.hlc_log_report.specs.InOrder.{LogInOrder}
+use Rattle.hlc_ordered_log.specs.InOrder.{LogInOrder}
 use Rattle.hlc_log_examples.proofs.drawn_logs.draw_log.Goals as goal
 
 pub returns : goal.returns

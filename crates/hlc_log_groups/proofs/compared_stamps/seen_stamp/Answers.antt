@@ -4,7 +4,7 @@ use Rattle.hlc_causality.specs.Assignment.{pair_at}
 use Rattle.hlc_causality.specs.Causality.{Skeleton}
 use Rattle.hlc_causality.specs.ClockEvents.{ClockEvents, clock_event_at}
 use Rattle.hlc_log.specs.OrderSkeleton.{index_in}
-use Rattle.hlc_log_report.proofs.EventsInOrder.{length-claimed_of, length-seen_of, length-skeleton_of}
+use Rattle.hlc_ordered_log.proofs.EventsInOrder.{length-claimed_of, length-seen_of, length-skeleton_of}
 use Rattle.hlc_log_groups.specs.ComparedStamps.{seen_or_floor}
 use Rattle.hlc_log_groups.proofs.Positions.{index_is}
 use Rattle.hlc_log_groups.proofs.compared_stamps.seen_stamp.Goals as goal

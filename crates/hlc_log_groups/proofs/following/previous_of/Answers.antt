@@ -4,7 +4,7 @@ use Rattle.hlc_causality.specs.ClockEvents.{ClockEvents, clock_skeleton}
 use Rattle.hlc_causality.specs.Predecessors.{previous_of}
 use Rattle.hlc_causes.proofs.LinksFound.{previous_received}
 use Rattle.hlc_causes.proofs.Predecessors.{previous_named}
-use Rattle.hlc_log_report.proofs.EventsInOrder.{length-skeleton_of}
+use Rattle.hlc_ordered_log.proofs.EventsInOrder.{length-skeleton_of}
 use Rattle.hlc_log_groups.proofs.following.previous_of.Goals as goal
 
 pub previous-requires : goal.previous-requires

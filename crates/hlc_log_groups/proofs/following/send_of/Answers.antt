@@ -4,7 +4,7 @@ use Rattle.hlc_causality.specs.ClockEvents.{ClockEvents, clock_skeleton}
 use Rattle.hlc_causality.specs.Predecessors.{send_of}
 use Rattle.hlc_causes.proofs.LinksFound.{send_of_received}
 use Rattle.hlc_causes.proofs.Predecessors.{send_named}
-use Rattle.hlc_log_report.proofs.EventsInOrder.{length-skeleton_of}
+use Rattle.hlc_ordered_log.proofs.EventsInOrder.{length-skeleton_of}
 use Rattle.hlc_log_groups.proofs.following.send_of.Goals as goal
 
 pub send-requires : goal.send-requires

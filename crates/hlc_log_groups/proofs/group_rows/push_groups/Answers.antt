@@ -1,6 +1,6 @@
 use Rattle.std.proofs.Common.{◌≡◌, ◌∙◌, ◌++◌, ◌∷◌, ℕ, [], append-nil, append_assoc, ap, flat_map, length, refl, rules, subst, sym}
 use Rattle.std.proofs.lemmas.List.Elements.{All-head, All-tail}
-use Rattle.hlc_log_report.specs.InOrder.{LogInOrder}
+use Rattle.hlc_ordered_log.specs.InOrder.{LogInOrder}
 use Rattle.hlc_log_audit.proofs.RowsAdded.{adds_none}
 use Rattle.hlc_log_groups.specs.GroupRows.{group_rows}
 use Rattle.hlc_log_groups.specs.Groups.{AreGroupsOf, Groups, NameBefore, NamesBefore}

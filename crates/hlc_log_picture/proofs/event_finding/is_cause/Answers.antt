@@ -1,7 +1,7 @@
 use Rattle.std.proofs.Common.{◌↔◌, Bool, subst, sym, ℕ, ◌≡◌, Some}
 use Rattle.std.specs.Prelude.{IsTrue}
-use Rattle.hlc_log_report.specs.Found.{IsCauseAt}
-use Rattle.hlc_log_report.specs.InOrder.{wrong_of}
+use Rattle.hlc_ordered_log.specs.Found.{IsCauseAt}
+use Rattle.hlc_ordered_log.specs.InOrder.{wrong_of}
 use Rattle.hlc_log_picture.proofs.Judging.{cause_by_carried, cause_by_rule, first_is_named, wrong_is_named}
 use Rattle.hlc_log_picture.proofs.event_finding.is_cause.Goals as goal
 

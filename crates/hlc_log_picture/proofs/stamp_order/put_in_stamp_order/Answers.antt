@@ -1,7 +1,7 @@
 use Rattle.std.proofs.Common.{subst, sym}
 use Rattle.std.proofs.lemmas.Result.{on_ok_weaker}
 use Rattle.hlc_stamp.specs.Ids.{places_of}
-use Rattle.hlc_log_report.specs.InOrder.{IsInOrder, LogInOrder}
+use Rattle.hlc_ordered_log.specs.InOrder.{IsInOrder, LogInOrder}
 use Rattle.hlc_log_picture.specs.StampOrder.{AreRanked}
 use Rattle.hlc_log_picture.proofs.StampOrders.{stays_ranked}
 use Rattle.hlc_log_picture.proofs.stamp_order.put_in_stamp_order.Goals as goal

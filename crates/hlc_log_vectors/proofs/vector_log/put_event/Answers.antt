@@ -2,8 +2,8 @@ use Rattle.std.proofs.Common.{◌≡◌, ◌∙◌, ◌<◌, ◌++◌, ℕ, List
 use Rattle.std.proofs.lemmas.Result.{on_ok_weaker}
 use Rattle.hlc_explain.specs.Vectors.{vector_in}
 use Rattle.hlc_log.specs.CausalOrder.{place_at}
-use Rattle.hlc_log_report.specs.InOrder.{LogInOrder, event_in_order, skeleton_of}
-use Rattle.hlc_log_report.proofs.EventsInOrder.{length-skeleton_of}
+use Rattle.hlc_ordered_log.specs.InOrder.{LogInOrder, event_in_order, skeleton_of}
+use Rattle.hlc_ordered_log.proofs.EventsInOrder.{length-skeleton_of}
 use Rattle.hlc_log_vectors.specs.LogVectors.{plain_label}
 use Rattle.hlc_log_vectors.specs.NodeText.{node_text}
 use Rattle.hlc_log_vectors.proofs.LinesAdded.{event_is_put}

@@ -4,7 +4,7 @@ use Rattle.hlc_stamp.specs.Ids.{places_of}
 use Rattle.hlc_log.specs.Events.{IsInRange, IsNumbered}
 use Rattle.hlc_log.specs.Unsent.{unsent_count, with_unsent}
 use Rattle.hlc_log.specs.declared.log_event.LogEvent.{LogEvent}
-use Rattle.hlc_log_report.specs.InOrder.{AreOfNodes}
+use Rattle.hlc_ordered_log.specs.InOrder.{AreOfNodes}
 use Rattle.hlc_open_log.specs.Opened.{IsPartOf}
 use Rattle.hlc_open_log.proofs.NamesKept.{nodes_apart, nodes_kept}
 use Rattle.hlc_open_log.proofs.PartsOpened.{part_all}

@@ -1,11 +1,6 @@
 use Rattle.std.proofs.lemmas.Result.{IfErr-weaker, IfOk-weaker}
-use Rattle.hlc_open_log.proofs.OpenedLogs.{explained, sound_text}
+use Rattle.hlc_open_log.proofs.OpenedLogs.{explained}
 use Rattle.hlc_open_log.proofs.opening.open_log.Goals as goal
-
-pub open_text-requires : goal.open_text-requires
-open_text-requires g c =
-    let read = c.in_ok-text.ensures in
-    sound_text c.args.rules c.args.most (g.R.Read.remaining c.args.reader) c.in_ok-text.text c.requires read.log read.numbered read.in_range
 
 pub returns-clause-opened : goal.returns-clause-opened
 returns-clause-opened g c =

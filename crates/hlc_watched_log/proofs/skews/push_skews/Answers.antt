@@ -1,6 +1,6 @@
 use Rattle.std.proofs.Common.{◌≡◌, ◌∙◌, ◌++◌, ◌∷◌, [], append-nil, append_assoc, ap, rules, subst, sym}
 use Rattle.hlc_csv.specs.Rows.{AddsText, text_of}
-use Rattle.hlc_log_report.specs.declared.skew_nodes.SkewNodes.{SkewNodes}
+use Rattle.hlc_ordered_log.specs.declared.skew_nodes.SkewNodes.{SkewNodes}
 use Rattle.hlc_watched_log.specs.Skews.{ShownSkews, skew_row, skew_rows}
 use Rattle.hlc_watched_log.specs.declared.shown_skew.ShownSkew.{ShownSkew}
 use Rattle.hlc_watched_log.proofs.RowsAdded.{adds_none, adds_row}

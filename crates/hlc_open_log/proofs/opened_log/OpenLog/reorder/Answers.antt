@@ -1,6 +1,6 @@
 use Rattle.std.proofs.Common.{◌∙◌, List, subst, sym}
 use Rattle.hlc_log.specs.declared.log_event.LogEvent.{LogEvent}
-use Rattle.hlc_open_log.specs.Opened.{HaveNames, LinesRise}
+use Rattle.hlc_log_text.specs.ReadText.{HaveNames, LinesRise}
 use Rattle.hlc_open_log.proofs.opened_log.OpenLog.reorder.Goals as goal
 
 pub invariant_of-self : goal.invariant_of-self

@@ -1,7 +1,0 @@
-use Rattle.hlc_log_report.specs.InOrder.{reading_told, skeleton_of}
-use Rattle.hlc_log_report.specs.Skew.{AreSkewsBefore}
-use Rattle.hlc_log_report.proofs.skews.skews_of.Given as goal
-
--- the skews of the messages that events before the position receive
-abbrev pub invariant-loop-position : goal.invariant-loop-position
-invariant-loop-position l = AreSkewsBefore (skeleton_of l.log) (reading_told l.log) l.position l.skews.entries
