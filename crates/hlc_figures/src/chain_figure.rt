@@ -1,19 +1,16 @@
-// What is drawn of the events of a chain.
+// What is drawn of a chain alone: the steps to its events, and how many events lie between them.
 
-ghost use Rattle.std.specs.Prelude.{◌≡◌, ◌++◌, ◌<◌, OnOk, length, string_bytes};
-ghost use Rattle.hlc_figures.specs.ChainFigure.{StopExists, band_in, counted_in, counted_text, dot_in, events_word, stop_arrow, stop_link};
+ghost use Rattle.std.specs.Prelude.{◌≡◌, ◌++◌, OnOk, string_bytes};
+ghost use Rattle.hlc_figures.specs.ChainFigure.{StopExists, counted_in, counted_text, events_word, stop_arrow, stop_link};
 
-use crate::chain_rows::{Gap, Standing, Stop};
-use crate::kept::{delivers, node};
-use crate::lanes::lane;
+use crate::kept::delivers;
+use crate::rows::{Gap, Stop};
 use crate::scene::Scene;
+use crate::standing::{arrow_along, link_along};
 use crate::subject::Subject;
-use hlc_stamp::EventId;
 use hlc_svg::arrow::Arrow;
-use hlc_svg::dot::{Dot, reach};
-use hlc_svg::frame::{Frame, LaneId, ROW, row_y, x};
-use hlc_svg::route::Route;
-use hlc_svg::shapes::{Band, Link, Point};
+use hlc_svg::frame::{Frame, LaneId, row_y, x};
+use hlc_svg::shapes::Link;
 use std::alloc::AllocError;
 
 // How many events lie between two of the chain, and where that stands.
@@ -24,49 +21,13 @@ struct Counted {
     count: u32,
 }
 
-/// The dot of an event in a row.
-pub fn stop_dot<S: Subject>(subject: &S, scene: &Scene<'_>, at: Standing) -> Dot
-    requires { at.event.0 < length (S.content subject.now).events }
-    ensures { result ≡ dot_in (S.content subject.now) scene.now.frame scene.now.lanes.now at }
-{
-    Dot {
-        event: at.event,
-        number: subject.number(at.event),
-        shown: subject.shown(at.event),
-        at: Point {
-            x: u64::from(x(scene.frame, lane(subject, scene.lanes, at.event))),
-            y: row_y(at.row),
-        },
-        half: scene.frame.half,
-        look: subject.look(at.event),
-        is_marked: true,
-    }
-}
-
-/// What is behind that row.
-pub fn stop_band(frame: Frame, at: Standing) -> Band
-    ensures { result ≡ band_in frame at }
-{
-    Band {
-        y: row_y(at.row).saturating_sub(ROW / 2),
-        width: frame.width,
-    }
-}
-
 /// The step to an event along its lane.
 pub fn stop_link<S: Subject>(subject: &S, scene: &Scene<'_>, stop: Stop) -> Option<Link>
     requires { StopExists (S.content subject.now) stop }
     ensures { result ≡ stop_link (S.content subject.now) scene.now.frame scene.now.lanes.now stop }
 {
     let before = stop.before?;
-    if node(subject, before.event).0 != node(subject, stop.at.event).0 {
-        return None;
-    }
-    Some(Link {
-        x: x(scene.frame, lane(subject, scene.lanes, stop.at.event)),
-        from: row_y(before.row),
-        to: row_y(stop.at.row),
-    })
+    link_along(subject, scene, before.event, row_y(before.row), stop.at)
 }
 
 /// The step to an event by a message.
@@ -78,20 +39,7 @@ pub fn stop_arrow<S: Subject>(subject: &S, scene: &Scene<'_>, stop: Stop) -> Opt
     if !delivers(subject, at.event, before.event) {
         return None;
     }
-    Some(Arrow {
-        sent: before.event,
-        delivered: at.event,
-        route: Route {
-            from_row: before.row,
-            to_row: at.row,
-            below: 0,
-            from: lane(subject, scene.lanes, before.event),
-            to: lane(subject, scene.lanes, at.event),
-            reach: reach(subject.look(at.event), scene.frame.half),
-            frame: scene.frame,
-        },
-        is_marked: true,
-    })
+    Some(arrow_along(subject, scene, before, at, true))
 }
 
 // The word for so many events.

@@ -1,9 +1,10 @@
 // The text of what is drawn of an event.
 
 ghost use Rattle.std.specs.Prelude.{◌≡◌, ◌++◌, ◌<◌, OnOk, length, string_bytes};
-ghost use Rattle.hlc_figures.specs.FigureText.{back_text, figure_of, front_text, lane_below, layer_text, lines_text, named_lane_of, named_lane_text};
+ghost use Rattle.hlc_figures.specs.Columns.{AreColumnsOf};
+ghost use Rattle.hlc_figures.specs.FigureText.{back_text, figure_of, figure_text, front_text, lane_below, lines_text, named_lane_of, named_lane_text};
 ghost use Rattle.hlc_svg.specs.Shapes.{dot_text};
-ghost use Rattle.hlc_figures.specs.Scene.{IsDrawn, IsScene};
+ghost use Rattle.hlc_figures.specs.Scene.{IsDrawn, IsMarked};
 ghost use Rattle.hlc_figures.specs.Title.{title_text};
 
 use crate::figure::{arrow, band, dot, entering, leaving, link, stub};
@@ -40,7 +41,7 @@ fn put_back<S: Subject>(
     scene: &Scene<'_>,
     event: EventId,
 ) -> Result<(), AllocError>
-    requires scene { IsScene (S.content subject.now) scene.now }
+    requires scene { IsMarked (S.content subject.now) scene.now }
     requires drawn { IsDrawn scene.now.frame event.0 }
     ensures { OnOk result (string_bytes text.new ≡ string_bytes text.old
         ++ back_text (figure_of (S.content subject.now) scene.now.explained scene.now.frame scene.now.lanes.now event.0)) }
@@ -86,7 +87,7 @@ fn put_lines<S: Subject>(
     scene: &Scene<'_>,
     event: EventId,
 ) -> Result<(), AllocError>
-    requires scene { IsScene (S.content subject.now) scene.now }
+    requires scene { IsMarked (S.content subject.now) scene.now }
     requires drawn { IsDrawn scene.now.frame event.0 }
     ensures { OnOk result (string_bytes text.new ≡ string_bytes text.old
         ++ lines_text (figure_of (S.content subject.now) scene.now.explained scene.now.frame scene.now.lanes.now event.0)) }
@@ -105,7 +106,8 @@ fn put_front<S: Subject>(
     scene: &Scene<'_>,
     event: EventId,
 ) -> Result<(), AllocError>
-    requires scene { IsScene (S.content subject.now) scene.now }
+    requires columns { AreColumnsOf (S.content subject.now) scene.now.frame scene.now.columns.now }
+    requires scene { IsMarked (S.content subject.now) scene.now }
     requires drawn { IsDrawn scene.now.frame event.0 }
     ensures { OnOk result (string_bytes text.new ≡ string_bytes text.old
         ++ front_text (figure_of (S.content subject.now) scene.now.explained scene.now.frame scene.now.lanes.now event.0)) }
@@ -120,17 +122,18 @@ fn put_front<S: Subject>(
 }
 
 /// What a layer has of an event.
-pub fn put_layer<S: Subject>(
+pub(crate) fn put_figure<S: Subject>(
     text: &mut String,
     layer: Layer,
     subject: &S,
     scene: &Scene<'_>,
     event: EventId,
 ) -> Result<(), AllocError>
-    requires scene { IsScene (S.content subject.now) scene.now }
+    requires columns { AreColumnsOf (S.content subject.now) scene.now.frame scene.now.columns.now }
+    requires scene { IsMarked (S.content subject.now) scene.now }
     requires drawn { IsDrawn scene.now.frame event.0 }
     ensures { OnOk result (string_bytes text.new ≡ string_bytes text.old
-        ++ layer_text layer (figure_of (S.content subject.now) scene.now.explained scene.now.frame scene.now.lanes.now event.0)) }
+        ++ figure_text layer (figure_of (S.content subject.now) scene.now.explained scene.now.frame scene.now.lanes.now event.0)) }
 {
     match layer {
         Layer::Back => put_back(text, subject, scene, event),

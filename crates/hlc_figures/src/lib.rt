@@ -13,7 +13,7 @@
 pub mod caption;
 mod chain_figure;
 pub mod chain_rows;
-pub mod chain_text;
+mod chain_text;
 pub mod columns;
 mod figure;
 pub mod figure_text;
@@ -23,6 +23,8 @@ pub mod lanes;
 pub mod laws;
 pub mod layer;
 mod row;
+pub mod rows;
 pub mod scene;
+pub mod standing;
 pub mod subject;
 mod title;

@@ -9,4 +9,4 @@ pub returns : goal.returns
 unfolding back_text
 returns g c =
     let old = string_bytes c.args.text.now in
-    on_ok_weaker c.put_band.result (λ e. e ∙ ap (λ (b : Band). old ++ band_text b) c.stop_band.ensures) c.put_band.ensures
+    on_ok_weaker c.put_band.result (λ e. e ∙ ap (λ (b : Band). old ++ band_text b) c.band_at.ensures) c.put_band.ensures
