@@ -2,13 +2,15 @@ use Rattle.std.proofs.Common.{◌∙◌, ◌++◌, ℕ, List, ap, codes, flat_ma
 use Rattle.std.proofs.lemmas.Result.{err_from_is_err_and, on_ok_weaker}
 use Rattle.std.specs.Io.KnownBytes.{Appends}
 use Rattle.hlc_causality.specs.Places.{places_below}
-use Rattle.hlc_figures.specs.Columns.{places_in}
+use Rattle.hlc_figures.specs.DrawnRow.{drawn_in, layer_text}
 use Rattle.hlc_diagram.specs.Cross.{cross_of, cross_text}
 use Rattle.hlc_figures.specs.Head.{head_text, heading_of}
-use Rattle.hlc_figures.specs.FigureText.{back_text, figure_of, front_text, lines_text, named_lane_of, named_lane_text}
+use Rattle.hlc_figures.specs.FigureText.{named_lane_of, named_lane_text}
+use Rattle.hlc_figures.specs.Rows.{rows_in}
+use Rattle.hlc_figures.specs.declared.layer.Layer.TheVariants.{Back, Front, Lines}
 use Rattle.hlc_svg.specs.Shapes.{if_drawn}
 use Rattle.hlc_diagram.proofs.Texts.{adds_then, parts_drawn, parts_of_picture}
-use Rattle.hlc_diagram.proofs.drawing.draw_scene.Goals as goal
+use Rattle.hlc_diagram.proofs.drawing.draw_parts.Goals as goal
 
 pub returns-clause-text : goal.returns-clause-text
 returns-clause-text g c =
@@ -16,11 +18,12 @@ returns-clause-text g c =
     let of = g.S.Subject.content c.args.subject.now in
     let headings = map (heading_of of s.frame) (places_below of.columns) in
     let bytes = g.W.Write.contents in
+    let rows = rows_in s.rows.now in
     let head = head_text s.frame c.args.caption.now of.legend headings in
-    let backs = flat_map (λ e. back_text (figure_of of s.explained s.frame s.lanes.now e)) (places_in s.frame) in
+    let backs = flat_map (λ row. layer_text Back (drawn_in of s row)) rows in
     let lanes = flat_map (λ node. named_lane_text (named_lane_of of s.frame s.lanes.now node)) s.lanes.now in
-    let lines = flat_map (λ e. lines_text (figure_of of s.explained s.frame s.lanes.now e)) (places_in s.frame) in
-    let fronts = flat_map (λ e. front_text (figure_of of s.explained s.frame s.lanes.now e)) (places_in s.frame) in
+    let lines = flat_map (λ row. layer_text Lines (drawn_in of s row)) rows in
+    let fronts = flat_map (λ row. layer_text Front (drawn_in of s row)) rows in
     let foot = codes "</svg>\n" in
     let crosses = flat_map (λ m. if_drawn cross_text (cross_of of s.frame s.lanes.now m)) c.args.messages.now in
     let rest = backs ++ (lanes ++ ((lines ++ crosses) ++ (fronts ++ foot))) in
@@ -45,7 +48,7 @@ returns-clause-text g c =
     c.in_ok-draw_layer-3.ensures.text in
     let text =
     ap (λ (caption : List ℕ). head_text s.frame caption of.legend headings ++ rest) c.requires.caption
-    ∙ parts_of_picture of s.frame s.lanes.now s.explained c.args.messages.now in
+    ∙ parts_of_picture of s.frame s.lanes.now s.explained rows c.args.messages.now in
     on_ok_weaker c.finish.result
     (λ ends. subst (λ (t : List ℕ). Appends w0 w6 t) text (drawn ends)) c.finish.ensures.text
 
