@@ -3,11 +3,12 @@ use Rattle.std.specs.Prelude.{ℕ, ◌==◌, ◌++◌, ◌<◌, true, List, [], 
 use Rattle.std.specs.Option.{option_and_then}
 use Rattle.hlc_causality.specs.Causality.{skeleton_at}
 use Rattle.hlc_causality.specs.FollowedChains.{is_event}
-use Rattle.hlc_figures.specs.Content.{Content}
+use Rattle.hlc_figures.specs.Content.{Content, node_at}
+use Rattle.hlc_figures.specs.Lanes.{lane_at}
 use Rattle.hlc_svg.specs.Frame.{row_y, x_of}
 use Rattle.hlc_figures.specs.FigureText.{Figure}
 use Rattle.hlc_figures.specs.Row.{row_at}
-use Rattle.hlc_figures.specs.Standing.{arrow_along, band_at, dot_at, link_along}
+use Rattle.hlc_figures.specs.Standing.{arrow_along, band_at, dot_at}
 use Rattle.hlc_figures.specs.Title.{title_text}
 use Rattle.hlc_svg.specs.declared.arrow.Arrow.{Arrow}
 use Rattle.hlc_figures.specs.declared.chain_figure.Counted.{Counted}
@@ -19,9 +20,14 @@ use Rattle.hlc_figures.specs.declared.layer.Layer.{Layer}
 use Rattle.hlc_figures.specs.declared.layer.Layer.TheVariants.{Back, Front, Lines}
 use Rattle.hlc_svg.specs.declared.shapes.Link.{Link}
 
--- the step to an event of the chain along its lane
+-- the step from one event to another along a lane
+abbrev pub link_between : Content → Frame → (lanes : List ℕ) → (e d : Standing) → Option Link
+link_between c frame lanes e d =
+    if node_at c d.event.0 == node_at c e.event.0 then
+    Some (record { x = x_of frame (lane_at c lanes e.event.0); from = row_y d.row; to = row_y e.row }) else None
+
 abbrev pub stop_link : Content → Frame → (lanes : List ℕ) → Stop → Option Link
-stop_link c frame lanes s = option_and_then (λ d. link_along c frame lanes d.event.0 (row_y d.row) s.at) s.before
+stop_link c frame lanes s = option_and_then (link_between c frame lanes s.at) s.before
 
 -- and the one by a message, from its send to its delivery
 abbrev pub arrow_if_sent : Content → Frame → (lanes : List ℕ) → (e d : Standing) → Option Arrow

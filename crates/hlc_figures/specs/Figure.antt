@@ -9,7 +9,7 @@ use Rattle.hlc_causality.specs.Neighbours.{deliveries_of}
 use Rattle.hlc_figures.specs.Chosen.{is_marked, next_marked}
 use Rattle.hlc_figures.specs.Content.{Content, clock_events_of, node_at}
 use Rattle.hlc_figures.specs.Lanes.{lane_at}
-use Rattle.hlc_figures.specs.Standing.{arrow_along, band_at, dot_at, link_along, stand_in}
+use Rattle.hlc_figures.specs.Standing.{arrow_along, band_at, dot_at, stand_in}
 use Rattle.hlc_svg.specs.Frame.{aside, x_of, y_of}
 use Rattle.hlc_svg.specs.Shapes.{reach_of}
 use Rattle.hlc_svg.specs.declared.frame.Frame.{Frame}
@@ -44,7 +44,8 @@ link_top frame d = if nat_lt d frame.first then TOP else y_of frame d
 
 -- a step of the chain along a lane
 abbrev pub link_from : Content → Frame → (lanes : List ℕ) → (e d : ℕ) → Option Link
-link_from c frame lanes e d = link_along c frame lanes d (link_top frame d) (stand_in frame e)
+link_from c frame lanes e d =
+    if node_at c d == node_at c e then Some (record { x = x_of frame (lane_at c lanes e); from = link_top frame d; to = y_of frame e }) else None
 
 -- a marked event has a link from its forcing event, if that is at the same node
 abbrev pub link_of : Content → Option EventId → Frame → (lanes : List ℕ) → ℕ → Option Link

@@ -1,6 +1,6 @@
 -- Where an event stands, and what is drawn there.
-use Rattle.std.specs.Prelude.{Bool, ℕ, ◌-◌, ◌/◌, ◌==◌, List, Option, Some, None, if◌then◌else◌}
-use Rattle.hlc_figures.specs.Content.{Content, node_at}
+use Rattle.std.specs.Prelude.{Bool, ℕ, ◌-◌, ◌/◌, List}
+use Rattle.hlc_figures.specs.Content.{Content}
 use Rattle.hlc_figures.specs.Lanes.{lane_at}
 use Rattle.hlc_figures.specs.declared.standing.Standing.{Standing}
 use Rattle.hlc_svg.specs.Frame.{row_of, row_y, x_of}
@@ -10,7 +10,6 @@ use Rattle.hlc_svg.specs.declared.dot.Dot.{Dot}
 use Rattle.hlc_svg.specs.declared.frame.Frame.{Frame}
 use Rattle.hlc_svg.specs.declared.frame.TheConstants.{ROW}
 use Rattle.hlc_svg.specs.declared.shapes.Band.{Band}
-use Rattle.hlc_svg.specs.declared.shapes.Link.{Link}
 
 -- where an event of a range stands
 abbrev pub stand_in : Frame → ℕ → Standing
@@ -31,12 +30,6 @@ dot_at c frame lanes s marked = record {
 -- what lies behind the row of a marked event
 abbrev pub band_at : Frame → Standing → Band
 band_at frame s = record { y = row_y s.row - ROW / 2; width = frame.width }
-
--- the step from d to an event along its lane, if they are at the same node
-abbrev pub link_along : Content → Frame → (lanes : List ℕ) → (d from : ℕ) → Standing → Option Link
-link_along c frame lanes d from s =
-    if node_at c d == node_at c s.event.0 then
-    Some (record { x = x_of frame (lane_at c lanes s.event.0); from = from; to = row_y s.row }) else None
 
 -- an arrow runs from the dot of a send to that of a delivery, or to the ring around that
 abbrev pub arrow_along : Content → Frame → (lanes : List ℕ) → (sent delivered : Standing) → (marked : Bool) → Arrow

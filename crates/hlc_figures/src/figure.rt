@@ -3,13 +3,13 @@
 ghost use Rattle.std.specs.Prelude.{◌≡◌, ◌<◌, IfSome, length};
 ghost use Rattle.hlc_causality.specs.FollowedChains.{is_event};
 ghost use Rattle.hlc_causality.specs.Neighbours.{place_of};
-ghost use Rattle.hlc_figures.specs.Figure.{arrow_of, band_of, border_of, delivery_after, dot_of, end_at, entering_of, is_left, is_step, leaving_of, link_from, link_of, link_top, next_of, number_distance, side_distance, step_after, stub_of, turn_distance};
+ghost use Rattle.hlc_figures.specs.Figure.{arrow_of, band_of, border_of, delivery_after, dot_of, end_at, entering_of, is_left, is_step, leaving_of, link_of, link_top, next_of, number_distance, side_distance, step_after, stub_of, turn_distance};
 ghost use Rattle.hlc_figures.specs.Scene.{IsDrawn, IsMarked};
 
 use crate::kept::{delivers, first_after, forcing, is_forced_by, node, send};
 use crate::lanes::lane;
 use crate::scene::{Scene, is_marked};
-use crate::standing::{arrow_along, band_at, dot_at, link_along, stand_in};
+use crate::standing::{arrow_along, band_at, dot_at, stand_in};
 use crate::subject::Subject;
 use hlc_stamp::EventId;
 use hlc_svg::arrow::Arrow;
@@ -41,21 +41,6 @@ fn link_top(frame: Frame, before: EventId) -> u64
     }
 }
 
-// The step of a chain to an event along its lane, from another.
-fn link_from<S: Subject>(
-    subject: &S,
-    scene: &Scene<'_>,
-    event: EventId,
-    before: EventId,
-) -> Option<Link>
-    requires event { event.0 < length (S.content subject.now).events }
-    requires before { before.0 < length (S.content subject.now).events }
-    ensures { result ≡ link_from (S.content subject.now) scene.now.frame scene.now.lanes.now event.0 before.0 }
-{
-    let (top, at) = (link_top(scene.frame, before), stand_in(scene.frame, event));
-    link_along(subject, scene, before, top, at)
-}
-
 /// The step of the marked chain that leads to an event along its lane.
 pub fn link<S: Subject>(subject: &S, scene: &Scene<'_>, event: EventId) -> Option<Link>
     requires scene { IsMarked (S.content subject.now) scene.now }
@@ -66,7 +51,14 @@ pub fn link<S: Subject>(subject: &S, scene: &Scene<'_>, event: EventId) -> Optio
         return None;
     }
     let forcing = forcing(subject, event)?;
-    link_from(subject, scene, event, forcing)
+    if node(subject, forcing).0 != node(subject, event).0 {
+        return None;
+    }
+    Some(Link {
+        x: x(scene.frame, lane(subject, scene.lanes, event)),
+        from: link_top(scene.frame, forcing),
+        to: y(scene.frame, event),
+    })
 }
 
 // The event with which the marked chain goes on after the range.

@@ -2,7 +2,7 @@
 
 ghost use Rattle.std.specs.Prelude.{◌≡◌, ◌++◌, ◌<◌, OnOk, length, string_bytes};
 ghost use Rattle.hlc_figures.specs.Columns.{AreColumnsOf};
-ghost use Rattle.hlc_figures.specs.FigureText.{back_text, figure_of, figure_text, front_text, lane_below, lines_text, named_lane_of, named_lane_text};
+ghost use Rattle.hlc_figures.specs.FigureText.{figure_of, figure_text, front_text, lane_below, lines_text, named_lane_of, named_lane_text};
 ghost use Rattle.hlc_svg.specs.Shapes.{dot_text};
 ghost use Rattle.hlc_figures.specs.Scene.{IsDrawn, IsMarked};
 ghost use Rattle.hlc_figures.specs.Title.{title_text};
@@ -32,21 +32,6 @@ pub fn put_dot<S: Subject>(text: &mut String, subject: &S, dot: Dot) -> Result<(
     put_title(text, subject, dot.event)?;
     put_ring(text, dot)?;
     put_dot_end(text, dot)
-}
-
-// What lies behind the lanes in the row of an event.
-fn put_back<S: Subject>(
-    text: &mut String,
-    subject: &S,
-    scene: &Scene<'_>,
-    event: EventId,
-) -> Result<(), AllocError>
-    requires scene { IsMarked (S.content subject.now) scene.now }
-    requires drawn { IsDrawn scene.now.frame event.0 }
-    ensures { OnOk result (string_bytes text.new ≡ string_bytes text.old
-        ++ back_text (figure_of (S.content subject.now) scene.now.explained scene.now.frame scene.now.lanes.now event.0)) }
-{
-    put_band(text, band(subject, scene, event))
 }
 
 // The lane of a node.
@@ -121,7 +106,7 @@ fn put_front<S: Subject>(
     put_row(text, subject, scene, event, y(scene.frame, event))
 }
 
-/// What a layer has of an event.
+/// What a layer has of an event: the band behind its row, what leads to it, or its dot and its row.
 pub(crate) fn put_figure<S: Subject>(
     text: &mut String,
     layer: Layer,
@@ -136,7 +121,7 @@ pub(crate) fn put_figure<S: Subject>(
         ++ figure_text layer (figure_of (S.content subject.now) scene.now.explained scene.now.frame scene.now.lanes.now event.0)) }
 {
     match layer {
-        Layer::Back => put_back(text, subject, scene, event),
+        Layer::Back => put_band(text, band(subject, scene, event)),
         Layer::Lines => put_lines(text, subject, scene, event),
         Layer::Front => put_front(text, subject, scene, event),
     }

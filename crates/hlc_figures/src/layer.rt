@@ -3,7 +3,7 @@ ghost use Rattle.hlc_figures.specs.Columns.{AreColumnsOf};
 ghost use Rattle.hlc_figures.specs.DrawnRow.{drawn_in, layer_text};
 ghost use Rattle.hlc_figures.specs.Scene.{IsRowOf};
 
-use crate::chain_text::{put_gap, put_stop};
+use crate::chain_figure::{put_gap, put_stop};
 use crate::figure_text::put_figure;
 use crate::rows::Row;
 use crate::scene::Scene;

@@ -1,9 +1,8 @@
 // Where an event stands, and what is drawn there.
 
 ghost use Rattle.std.specs.Prelude.{◌≡◌, ◌<◌, length};
-ghost use Rattle.hlc_figures.specs.Standing.{arrow_along, band_at, dot_at, link_along, stand_in};
+ghost use Rattle.hlc_figures.specs.Standing.{arrow_along, band_at, dot_at, stand_in};
 
-use crate::kept::node;
 use crate::lanes::lane;
 use crate::scene::Scene;
 use crate::subject::Subject;
@@ -12,7 +11,7 @@ use hlc_svg::arrow::Arrow;
 use hlc_svg::dot::{Dot, reach};
 use hlc_svg::frame::{Frame, ROW, row, row_y, x};
 use hlc_svg::route::Route;
-use hlc_svg::shapes::{Band, Link, Point};
+use hlc_svg::shapes::{Band, Point};
 
 /// An event, and the row in which it stands.
 #[derive(Clone, Copy)]
@@ -61,28 +60,6 @@ pub(crate) fn band_at(frame: Frame, at: Standing) -> Band
         y: row_y(at.row).saturating_sub(ROW / 2),
         width: frame.width,
     }
-}
-
-/// The step to an event along its lane from another, if that is at the same node.
-pub(crate) fn link_along<S: Subject>(
-    subject: &S,
-    scene: &Scene<'_>,
-    before: EventId,
-    from: u64,
-    at: Standing,
-) -> Option<Link>
-    requires before { before.0 < length (S.content subject.now).events }
-    requires at { at.event.0 < length (S.content subject.now).events }
-    ensures { result ≡ link_along (S.content subject.now) scene.now.frame scene.now.lanes.now before.0 from at }
-{
-    if node(subject, before).0 != node(subject, at.event).0 {
-        return None;
-    }
-    Some(Link {
-        x: x(scene.frame, lane(subject, scene.lanes, at.event)),
-        from,
-        to: row_y(at.row),
-    })
 }
 
 /// The arrow from a send to a delivery.

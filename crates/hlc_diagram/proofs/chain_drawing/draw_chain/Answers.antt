@@ -1,5 +1,4 @@
 use Rattle.std.proofs.Common.{◌≡◌, ◌∙◌, ℕ, ◌<◌, ◌≤◌, All, List, [], Some, refl, ap, arith, length, subst, sym}
-use Rattle.std.proofs.lemmas.Result.{err_from_is_err_and}
 use Rattle.std.specs.Io.KnownBytes.{Appends}
 use Rattle.std.specs.Prelude.{IsErrOf, OnOk}
 use Rattle.hlc_diagram.specs.declared.draw_fault.DrawFault.TheVariants.{NoEvent}
@@ -16,7 +15,6 @@ use Rattle.hlc_svg.specs.declared.frame.Frame.{Frame}
 use Rattle.hlc_figures.specs.Lanes.{lanes_of}
 use Rattle.hlc_figures.proofs.NodeLanes.{lanes_exist}
 use Rattle.hlc_figures.proofs.Chains.{chosen_all_exist, listed_rises, listed_rows_exist, listed_rows_fit}
-use Rattle.hlc_diagram.proofs.Faults.{other_fault}
 use Rattle.hlc_diagram.proofs.chain_drawing.draw_chain.Goals as goal
 
 pub chain_rows-requires : goal.chain_rows-requires
@@ -85,34 +83,4 @@ returns g c =
       drawn_without = subst (λ (t : List ℕ). IsErrOf c.draw_scene.result NoEvent → Appends w0 w1 t) text drawn.drawn_without;
       no_event = drawn.no_event;
       event = drawn.event;
-    }
-
-pub returns-in_err-list : goal.returns-in_err-list
-returns-in_err-list g c =
-    let from = err_from_is_err_and c.from_residual.result c.from_residual.ensures.1 in
-    rw (from.1, from.2) record {
-      drawn = tt;
-      drawn_without = other_fault _ c.in_err-list.ensures.fault;
-      no_event = other_fault _ c.in_err-list.ensures.fault;
-      event = tt;
-    }
-
-pub returns-in_err-rows : goal.returns-in_err-rows
-returns-in_err-rows g c =
-    let from = err_from_is_err_and c.from_residual-in_err-rows.result c.from_residual-in_err-rows.ensures.1 in
-    rw (from.1, from.2) record {
-      drawn = tt;
-      drawn_without = other_fault _ tt;
-      no_event = other_fault _ tt;
-      event = tt;
-    }
-
-pub returns-in_err-layout : goal.returns-in_err-layout
-returns-in_err-layout g c =
-    let from = err_from_is_err_and c.from_residual-in_err-layout.result c.from_residual-in_err-layout.ensures.1 in
-    rw (from.1, from.2) record {
-      drawn = tt;
-      drawn_without = other_fault _ tt;
-      no_event = other_fault _ tt;
-      event = tt;
     }

@@ -1,5 +1,5 @@
 use Rattle.std.proofs.Common.{◌∙◌, ◌++◌, ℕ, List, ap, codes, flat_map, map, string_bytes, subst}
-use Rattle.std.proofs.lemmas.Result.{err_from_is_err_and, on_ok_weaker}
+use Rattle.std.proofs.lemmas.Result.{on_ok_weaker}
 use Rattle.std.specs.Io.KnownBytes.{Appends}
 use Rattle.hlc_causality.specs.Places.{places_below}
 use Rattle.hlc_figures.specs.DrawnRow.{drawn_in, layer_text}
@@ -51,33 +51,3 @@ returns-clause-text g c =
     ∙ parts_of_picture of s.frame s.lanes.now s.explained rows c.args.messages.now in
     on_ok_weaker c.finish.result
     (λ ends. subst (λ (t : List ℕ). Appends w0 w6 t) text (drawn ends)) c.finish.ensures.text
-
-pub returns-in_err-put_head : goal.returns-in_err-put_head
-returns-in_err-put_head g c =
-    let from = err_from_is_err_and c.from_residual.result c.from_residual.ensures.1 in
-    rw (from.1, from.2) record { text = tt; fault = tt }
-
-pub returns-in_err-draw_layer : goal.returns-in_err-draw_layer
-returns-in_err-draw_layer g c =
-    let from = err_from_is_err_and c.from_residual-in_err-draw_layer.result c.from_residual-in_err-draw_layer.ensures.1 in
-    rw (from.1, from.2) record { text = tt; fault = c.in_err-draw_layer.ensures.fault }
-
-pub returns-in_err-draw_lanes : goal.returns-in_err-draw_lanes
-returns-in_err-draw_lanes g c =
-    let from = err_from_is_err_and c.from_residual-in_err-draw_lanes.result c.from_residual-in_err-draw_lanes.ensures.1 in
-    rw (from.1, from.2) record { text = tt; fault = c.in_err-draw_lanes.ensures.fault }
-
-pub returns-in_err-draw_layer-2 : goal.returns-in_err-draw_layer-2
-returns-in_err-draw_layer-2 g c =
-    let from = err_from_is_err_and c.from_residual-in_err-draw_layer-2.result c.from_residual-in_err-draw_layer-2.ensures.1 in
-    rw (from.1, from.2) record { text = tt; fault = c.in_err-draw_layer-2.ensures.fault }
-
-pub returns-in_err-draw_crosses : goal.returns-in_err-draw_crosses
-returns-in_err-draw_crosses g c =
-    let from = err_from_is_err_and c.from_residual-in_err-draw_crosses.result c.from_residual-in_err-draw_crosses.ensures.1 in
-    rw (from.1, from.2) record { text = tt; fault = c.in_err-draw_crosses.ensures.fault }
-
-pub returns-in_err-draw_layer-3 : goal.returns-in_err-draw_layer-3
-returns-in_err-draw_layer-3 g c =
-    let from = err_from_is_err_and c.from_residual-in_err-draw_layer-3.result c.from_residual-in_err-draw_layer-3.ensures.1 in
-    rw (from.1, from.2) record { text = tt; fault = c.in_err-draw_layer-3.ensures.fault }

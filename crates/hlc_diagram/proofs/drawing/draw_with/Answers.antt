@@ -1,5 +1,4 @@
 use Rattle.std.proofs.Common.{◌≡◌, ◌∙◌, refl, ℕ, ◌-◌, ◌<◌, ◌≤◌, All, Bool, List, Option, ap, arith, length, subst, sym}
-use Rattle.std.proofs.lemmas.Result.{err_from_is_err_and}
 use Rattle.std.specs.Io.KnownBytes.{Appends}
 use Rattle.std.specs.Prelude.{IsErrOf, OnOk}
 use Rattle.hlc_figures.proofs.EventRows.{event_rows_are}
@@ -20,7 +19,6 @@ use Rattle.hlc_diagram.specs.declared.undelivered.Undelivered.{Undelivered}
 use Rattle.hlc_figures.proofs.NodeLanes.{lanes_exist}
 use Rattle.hlc_svg.specs.declared.frame.Frame.{Frame}
 use Rattle.hlc_diagram.specs.declared.view.View.{View}
-use Rattle.hlc_diagram.proofs.Faults.{other_fault}
 use Rattle.hlc_diagram.proofs.drawing.draw_with.Goals as goal
 
 -- the events of a view exist
@@ -91,54 +89,4 @@ returns g c =
       drawn_without = subst (λ (t : List ℕ). IsErrOf c.draw_scene.result NoEvent → Appends w0 w1 t) text drawn.drawn_without;
       no_event = drawn.no_event;
       event = drawn.event;
-    }
-
-pub returns-in_err-lanes : goal.returns-in_err-lanes
-returns-in_err-lanes g c =
-    let from = err_from_is_err_and c.from_residual.result c.from_residual.ensures.1 in
-    rw (from.1, from.2) record {
-      drawn = tt;
-      drawn_without = other_fault _ tt;
-      no_event = other_fault _ tt;
-      event = tt;
-    }
-
-pub returns-in_err-layout : goal.returns-in_err-layout
-returns-in_err-layout g c =
-    let from = err_from_is_err_and c.from_residual-in_err-layout.result c.from_residual-in_err-layout.ensures.1 in
-    rw (from.1, from.2) record {
-      drawn = tt;
-      drawn_without = other_fault _ tt;
-      no_event = other_fault _ tt;
-      event = tt;
-    }
-
-pub returns-in_err-list : goal.returns-in_err-list
-returns-in_err-list g c =
-    let from = err_from_is_err_and c.from_residual-in_err-list.result c.from_residual-in_err-list.ensures.1 in
-    rw (from.1, from.2) record {
-      drawn = tt;
-      drawn_without = other_fault _ c.in_err-list.ensures.fault;
-      no_event = other_fault _ c.in_err-list.ensures.fault;
-      event = tt;
-    }
-
-pub returns-in_err-marks : goal.returns-in_err-marks
-returns-in_err-marks g c =
-    let from = err_from_is_err_and c.from_residual-in_err-marks.result c.from_residual-in_err-marks.ensures.1 in
-    rw (from.1, from.2) record {
-      drawn = tt;
-      drawn_without = other_fault _ tt;
-      no_event = other_fault _ tt;
-      event = tt;
-    }
-
-pub returns-in_err-messages : goal.returns-in_err-messages
-returns-in_err-messages g c =
-    let from = err_from_is_err_and c.from_residual-in_err-messages.result c.from_residual-in_err-messages.ensures.1 in
-    rw (from.1, from.2) record {
-      drawn = tt;
-      drawn_without = other_fault _ tt;
-      no_event = other_fault _ tt;
-      event = tt;
     }
