@@ -6,14 +6,14 @@ use Rattle.std.proofs.lemmas.Bool.Decides.{nat_tests}
 use Rattle.hlc_causality.specs.Causality.{skeleton_at}
 use Rattle.hlc_figures.specs.Columns.{lane_distance}
 use Rattle.hlc_figures.specs.Content.{Content, node_at}
-use Rattle.hlc_figures.specs.Figure.{arrow_between, delivery_after, is_left, side_distance, turn_distance}
+use Rattle.hlc_figures.specs.Figure.{delivery_after, is_left, side_distance, turn_distance}
 use Rattle.hlc_figures.specs.Lanes.{lane_at, lane_of}
+use Rattle.hlc_figures.specs.Rows.{event_rows}
 use Rattle.hlc_svg.specs.Frame.{aside, x_of}
 use Rattle.hlc_diagram.specs.Laws.{ArrowsKeepClear, BorderArrowsKeepClear, LanesAreApart}
 use Rattle.hlc_svg.specs.Clear.{KeepsClear, LineKeepsClear}
-use Rattle.hlc_svg.specs.Path.{course_of, path_of}
+use Rattle.hlc_svg.specs.Path.{course_of}
 use Rattle.hlc_figures.specs.FigureText.{NamedLane, named_lane_of}
-use Rattle.hlc_svg.specs.declared.arrow.Arrow.{Arrow}
 use Rattle.hlc_svg.specs.declared.route.TheConstants.{FURTHER}
 use Rattle.hlc_svg.specs.declared.shapes.Border.{Border}
 use Rattle.hlc_svg.specs.declared.shapes.Border.TheVariants.{Lower, Upper}
@@ -22,10 +22,11 @@ use Rattle.hlc_svg.specs.declared.frame.Frame.{Frame}
 use Rattle.hlc_svg.specs.declared.shapes.End.{End}
 use Rattle.hlc_svg.specs.declared.shapes.Point.{Point}
 use Rattle.hlc_diagram.specs.declared.view.View.{View}
-use Rattle.hlc_svg.proofs.Clear.{IsInGap, StandsAt, left_of_lane, line_in_gap, next_lane, path_keeps_clear, right_of_lane}
+use Rattle.hlc_svg.proofs.Clear.{IsInGap, StandsAt, left_of_lane, line_in_gap, next_lane, right_of_lane}
 use Rattle.hlc_diagram.proofs.Crossings.{end_from, end_to, entering, entering_at, entering_kinds, entering_more, later_first, leaving, leaving_at, leaving_kinds, leaving_more, side_room, turn_room}
-use Rattle.hlc_diagram.proofs.Drawn.{arrow, arrow_kinds, arrows, arrows_more, count, dot, dot_is, first, frame, lanes, reach_room}
-use Rattle.hlc_diagram.proofs.Laned.{lane_rises, mapped}
+use Rattle.hlc_diagram.proofs.Drawn.{count, dot, dot_is, first, frame, lanes}
+use Rattle.hlc_diagram.proofs.DrawnRows.{keeps_clear, mapped}
+use Rattle.hlc_diagram.proofs.Laned.{lane_rises}
 use Rattle.hlc_figures.proofs.NumberedDots.{left_arrows_have_room}
 use Rattle.hlc_figures.proofs.Placed.{made_of}
 
@@ -43,20 +44,9 @@ module _ (c : Content) (view : View) where
   pub stands : (e : ℕ) → StandsAt (frame c view) (dot c view e) (lane_at c (lanes c view) e) e
   stands e = record { half = refl; lane = refl; row = refl }
 
-  between_dots : (s f e : ℕ) → KeepsClear (dot c view e) (path_of (arrow_between c view.explained (frame c view) (lanes c view) s f).route)
-  between_dots s f e =
-      let a = (arrow_between c view.explained (frame c view) (lanes c view) s f).route in
-      let ends = reach_room (c.look f) (frame c view).half in
-      path_keeps_clear a (room (frame c view).half) (around_room (frame c view).half) ends.0 ends.1 (dot c view e) (lane_at c (lanes c view) e) e (stands e)
-
 pub arrows_keep_clear : ArrowsKeepClear
 arrows_keep_clear c view a d among there =
-    let made = made_of (arrows c view) (arrow c view) refl (arrows_more c view) (first c view) (count c view) a among in
-    let f = made.0 in
-    let is = arrow_kinds c view.explained (frame c view) (lanes c view) f (skeleton_at c.events f).send a made.3 in
-    let at = dot_is c view d there in
-    let clear = between_dots c view is.0 f at.0 in
-    subst (λ (d : Dot). KeepsClear d (path_of a.route)) at.2 (subst (λ (a : Arrow). KeepsClear (dot c view at.0) (path_of a.route)) is.3 clear)
+    keeps_clear c view.explained (frame c view) (lanes c view) refl (event_rows (frame c view).first (frame c view).end) a d among there
 
 -- before the first lane, by half a dot's width at least
 abbrev IsBeforeLanes : Frame → (x : ℕ) → Type 0

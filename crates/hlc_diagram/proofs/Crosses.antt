@@ -29,7 +29,8 @@ use Rattle.hlc_diagram.proofs.Apart.{around_room, room, room_for_two, stands}
 use Rattle.hlc_svg.proofs.Clear.{path_keeps_clear, path_never_rises}
 use Rattle.hlc_diagram.proofs.Drawn.{dot, dot_is, dot_there, frame, in_range, lanes, placed_from, placed_to, side_of}
 use Rattle.hlc_diagram.proofs.FailedMessages.{Entries, IsKeyed, all_keyed, counts, entries_of, entry_found, first_counted, first_kept, found, kept_is_first, kept_times, message_itself, one_entry}
-use Rattle.hlc_diagram.proofs.Laned.{lane_there, mapped}
+use Rattle.hlc_diagram.proofs.DrawnRows.{mapped}
+use Rattle.hlc_diagram.proofs.Laned.{lane_there}
 use Rattle.hlc_figures.proofs.NodeLanes.{among_at, among_from}
 use Rattle.hlc_figures.proofs.Placed.{parts_of}
 

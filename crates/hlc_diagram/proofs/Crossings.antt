@@ -1,5 +1,5 @@
 -- The arrows over the borders of a picture.
-use Rattle.std.proofs.Common.{◌≡◌, ◌∙◌, ℕ, ◌+◌, ◌<◌, ◌≤◌, ◌&&◌, Bool, true, false, inl, inr, List, [], ◌∷◌, ◌++◌, Contains, Option, Some, None, ap, arith, find, map, refl, subst, sym}
+use Rattle.std.proofs.Common.{◌≡◌, ◌∙◌, ℕ, ◌+◌, ◌<◌, ◌≤◌, ◌&&◌, Bool, true, false, inl, inr, List, [], ◌∷◌, Contains, Option, Some, None, ap, arith, find, refl, subst, sym}
 use Rattle.std.specs.List.{cons_option, filter_map}
 use Rattle.std.specs.Option.{option_or}
 use Rattle.std.specs.Prelude.{nat_le, nat_lt}
@@ -28,12 +28,12 @@ use Rattle.hlc_svg.specs.declared.shapes.Border.{Border}
 use Rattle.hlc_svg.specs.declared.shapes.Border.TheVariants.{Lower, Upper}
 use Rattle.hlc_svg.specs.declared.shapes.End.{End}
 use Rattle.hlc_diagram.specs.declared.view.View.{View}
-use Rattle.hlc_diagram.proofs.Drawn.{count, dot, dot_there, drawn_there, figure, first, frame, in_range, lanes}
+use Rattle.hlc_diagram.proofs.Drawn.{count, dot, dot_there, drawn, drawn_more, drawn_there, figure, first, frame, in_range, lanes}
 use Rattle.hlc_svg.proofs.Clear.{next_lane}
 use Rattle.hlc_figures.proofs.Links.{chosen_exists, found_is_among}
 use Rattle.hlc_figures.proofs.NodeLanes.{counts_one}
 use Rattle.hlc_figures.proofs.NumberedDots.{left_arrows_have_room}
-use Rattle.hlc_figures.proofs.Placed.{in_one, made_of, parts_more}
+use Rattle.hlc_figures.proofs.Placed.{AddsItems, in_one, made_of, parts_more}
 
 -- what is found passes, and if something passes, something is found
 found_passes : (test : ℕ → Bool) (xs : List ℕ) (x : ℕ) → find test xs ≡ Some x → test x ≡ true
@@ -101,19 +101,19 @@ module _ (c : Content) (view : View) where
   entering_at e = cons_option (entering_of c view.explained (frame c view) (lanes c view) e) []
 
   abbrev pub entering : List ℕ → List End
-  entering places = filter_map (λ f. f.entering) (map (figure c view) places)
+  entering places = filter_map (λ f. f.entering) (drawn c view places)
 
-  pub entering_more : (places : List ℕ) (p : ℕ) → entering (places ++ p ∷ []) ≡ entering places ++ entering_at p
-  entering_more places p = parts_more (λ (f : Figure). f.entering) (figure c view) places p
+  pub entering_more : AddsItems entering entering_at
+  entering_more places p = parts_more (λ (f : Figure). f.entering) (drawn c view) (figure c view) (drawn_more c view) places p
 
   abbrev pub leaving_at : ℕ → List End
   leaving_at e = cons_option (leaving_of c view.explained (frame c view) (lanes c view) e) []
 
   abbrev pub leaving : List ℕ → List End
-  leaving places = filter_map (λ f. f.leaving) (map (figure c view) places)
+  leaving places = filter_map (λ f. f.leaving) (drawn c view places)
 
-  pub leaving_more : (places : List ℕ) (p : ℕ) → leaving (places ++ p ∷ []) ≡ leaving places ++ leaving_at p
-  leaving_more places p = parts_more (λ (f : Figure). f.leaving) (figure c view) places p
+  pub leaving_more : AddsItems leaving leaving_at
+  leaving_more places p = parts_more (λ (f : Figure). f.leaving) (drawn c view) (figure c view) (drawn_more c view) places p
 
   -- the arrow over the upper border to a delivery, and the one over the lower border from a send
   abbrev pub end_to : (s f : ℕ) → End

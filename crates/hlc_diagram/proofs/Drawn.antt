@@ -1,5 +1,5 @@
 -- The laws of pictures.
-use Rattle.std.proofs.Common.{◌≡◌, ◌≢◌, ◌∙◌, ◌⊎◌, ◌↔◌, ℕ, ◌+◌, ◌-◌, ◌<◌, ◌≤◌, ◌==◌, Bool, true, false, inl, inr, List, [], ◌∷◌, ◌++◌, Contains, Option, Some, None, arith, ap, count_by, filter, length, map, refl, subst, sym}
+use Rattle.std.proofs.Common.{◌≡◌, ◌≢◌, ◌∙◌, ◌⊎◌, ◌↔◌, ℕ, ◌+◌, ◌-◌, ◌<◌, ◌≤◌, ◌==◌, Bool, true, false, inl, inr, List, [], ◌∷◌, Contains, Option, Some, None, arith, ap, count_by, filter, length, map, refl, subst, sym}
 use Rattle.std.specs.List.{cons_option, filter_map}
 use Rattle.std.specs.Prelude.{nat_lt}
 use Rattle.std.proofs.lemmas.Bool.{cases_Bool, cases_lt}
@@ -16,21 +16,20 @@ use Rattle.hlc_diagram.specs.Layout.{end_of, first_of, frame_of, lanes_in}
 use Rattle.hlc_figures.specs.Content.{Content, clock_events_of}
 use Rattle.hlc_figures.specs.Lanes.{lane_at}
 use Rattle.hlc_figures.specs.Figure.{arrow_between, arrow_into, arrow_of, dot_of}
-use Rattle.hlc_figures.specs.Columns.{lane_distance, places_from}
+use Rattle.hlc_figures.specs.Columns.{places_from}
 use Rattle.hlc_svg.specs.Shapes.{reach_of}
 use Rattle.hlc_svg.specs.Frame.{row_of, row_y, towards, x_of, y_of}
 use Rattle.hlc_diagram.specs.Laws.{ArrowsAreOfDeliveries, DotsAreOfEvents, EachDeliveryHasOneArrow, EachEventHasOneDot, IsArrowOfDelivery, IsDotOfEvent, IsInRange, MarkedAreTheChain, NoTwoDotsInOnePlace, NoneIsMarked, TimeRunsDown, TitlesAreOfTheDots, arrows_in, dots_in}
 use Rattle.hlc_figures.specs.FigureText.{Figure, figure_of}
 use Rattle.hlc_diagram.specs.Picture.{picture_of}
-use Rattle.hlc_figures.specs.Row.{row_cells}
-use Rattle.hlc_figures.specs.Title.{title_text}
+use Rattle.hlc_figures.specs.Rows.{event_row, event_rows}
 use Rattle.hlc_svg.specs.declared.frame.Frame.{Frame}
 use Rattle.hlc_svg.specs.declared.arrow.Arrow.{Arrow}
 use Rattle.hlc_svg.specs.declared.dot.Dot.{Dot}
-use Rattle.hlc_svg.specs.declared.look.Look.{Look}
 use Rattle.hlc_svg.specs.declared.shapes.Point.{Point}
 use Rattle.hlc_diagram.specs.declared.view.View.{View}
 use Rattle.hlc_svg.proofs.Clear.{next_lane, path_never_rises}
+use Rattle.hlc_diagram.proofs.DrawnRows.{figures, reach_room, titled}
 use Rattle.hlc_figures.proofs.Links.{clock_size}
 use Rattle.hlc_figures.proofs.NodeLanes.{among_at, among_from}
 use Rattle.hlc_figures.proofs.Placed.{AddsItems, in_one, made_of, made_there, one_passes, parts_more}
@@ -51,25 +50,31 @@ module _ (c : Content) (view : View) where
   abbrev pub figure : ℕ → Figure
   figure e = figure_of c view.explained frame lanes e
 
-  -- dots and arrows are made place by place
+  -- what is drawn of the events of a range, their dots and their arrows are made place by place
+  abbrev pub drawn : List ℕ → List Figure
+  drawn places = figures c view.explained frame lanes (map event_row places)
+
+  pub drawn_more : AddsItems drawn (λ e. figure e ∷ [])
+  drawn_more [] p = refl
+  drawn_more (e ∷ places) p = ap (λ (rest : List Figure). figure e ∷ rest) (drawn_more places p)
+
   abbrev dots : List ℕ → List Dot
-  dots places = map (λ f. f.dot) (map figure places)
+  dots places = map (λ f. f.dot) (drawn places)
 
   abbrev pub dot : ℕ → Dot
   dot e = dot_of c view.explained frame lanes e
 
-  dots_more : (places : List ℕ) (p : ℕ) → dots (places ++ p ∷ []) ≡ dots places ++ dot p ∷ []
-  dots_more places p =
-      ap (map (λ (f : Figure). f.dot)) (map_push figure places p) ∙ map_push (λ (f : Figure). f.dot) (map figure places) (figure p)
+  dots_more : AddsItems dots (λ e. dot e ∷ [])
+  dots_more places p = ap (map (λ (f : Figure). f.dot)) (drawn_more places p) ∙ map_push (λ (f : Figure). f.dot) (drawn places) (figure p)
 
   abbrev pub arrows : List ℕ → List Arrow
-  arrows places = filter_map (λ f. f.arrow) (map figure places)
+  arrows places = filter_map (λ f. f.arrow) (drawn places)
 
   abbrev pub arrow : ℕ → List Arrow
   arrow e = cons_option (arrow_of c view.explained frame lanes e) []
 
-  pub arrows_more : (places : List ℕ) (p : ℕ) → arrows (places ++ p ∷ []) ≡ arrows places ++ arrow p
-  arrows_more places p = parts_more (λ (f : Figure). f.arrow) figure places p
+  pub arrows_more : AddsItems arrows arrow
+  arrows_more places p = parts_more (λ (f : Figure). f.arrow) drawn figure drawn_more places p
 
   -- an event of the range is one of the places
   pub placed_from : (e : ℕ) → IsInRange c view e → first ≤ e
@@ -114,16 +119,9 @@ dots_are_of_events c view d among =
     let is = dot_is c view d among in
     subst (λ (d : Dot). IsDotOfEvent c view d) is.2 (record { in_range = is.1; lane = refl; number = refl; shown = refl; look = refl })
 
--- a figure is that of an event of the range
-figure_is : (c : Content) (view : View) (f : Figure) → Contains (picture_of c view).figures f → (e : ℕ) × (figure c view e ≡ f)
-figure_is c view f among =
-    let made = made_of (map (figure c view)) (λ e. figure c view e ∷ []) refl (λ places p. map_push (figure c view) places p) (first c view) (count c view) f among in
-    (made.0, in_one (figure c view made.0) f made.3)
-
 pub titles_are_of_the_dots : TitlesAreOfTheDots
 titles_are_of_the_dots c view f among =
-    let is = figure_is c view f among in
-    subst (λ (f : Figure). (f.title ≡ title_text c f.dot.event.0) × (f.row ≡ row_cells c (picture_of c view).frame f.dot.event.0)) is.1 (refl, refl)
+    let frame = frame_of c view in titled c view.explained (frame_of c view) (lanes_in c view) (event_rows frame.first frame.end) f among
 
 -- a later row is a lower one
 lower : (frame : Frame) (d e : ℕ) → frame.first ≤ d → d < e → y_of frame d < y_of frame e
@@ -203,10 +201,6 @@ each_delivery_has_one_arrow c view s f sends in_s in_f =
     let to = placed_to c view f in_f in
     let one = one_passes (arrows c view) (arrow c view) refl (arrows_more c view) test f others (first c view) (count c view) from to in
     sym (length-filter test (arrows_in (picture_of c view))) ∙ ap length (one ∙ own)
-
--- lanes have room for a dot and a ring
-pub reach_room : (look : Look) (half : ℕ) → (half ≤ reach_of look half) × (reach_of look half + half ≤ lane_distance half)
-reach_room look half = elim (cases_Bool look.is_ringed) [ inl ring ↦ rw ring (omega arith, omega arith) | inr none ↦ rw none (omega arith, omega arith) ]
 
 -- the ends of an arrow lie at the sides of its dots
 module _ (c : Content) (view : View) where

@@ -1,11 +1,11 @@
 -- The messages that didn't arrive, each once.
-use Rattle.std.proofs.Common.{◌≡◌, ◌∙◌, ℕ, ◌+◌, ◌-◌, ◌^◌, ◌<◌, ◌≤◌, ◌==◌, ◌&&◌, Bool, true, false, cond, inl, inr, All, Contains, List, [], ◌∷◌, Option, Some, None, ap, arith, eq-eqb, eqb-true, find, length, map, min, refl, subst, sym}
+use Rattle.std.proofs.Common.{◌≡◌, ◌∙◌, ℕ, ◌+◌, ◌-◌, ◌^◌, ◌≤◌, ◌==◌, ◌&&◌, Bool, true, false, cond, inl, inr, All, Contains, List, [], ◌∷◌, Option, Some, None, ap, arith, eq-eqb, eqb-true, find, length, min, refl, sym}
 use Rattle.std.specs.List.{sum_by}
-use Rattle.std.specs.Map.{lookup, values_of}
+use Rattle.std.specs.Map.{lookup}
 use Rattle.std.specs.Option.{option_or}
-use Rattle.std.specs.Prelude.{count_by, fold, if◌then◌else◌, option_map}
+use Rattle.std.specs.Prelude.{count_by, fold}
 use Rattle.std.proofs.lemmas.Bool.{and_parts, cases_Bool}
-use Rattle.std.proofs.lemmas.List.Elements.{All-cons, All-contains, All-head, All-nil, All-tail, Contains-append_cases}
+use Rattle.std.proofs.lemmas.List.Elements.{All-cons, All-head, All-nil, All-tail, Contains-append_cases}
 use Rattle.std.proofs.lemmas.List.Sums.{sum_by-cons}
 use Rattle.indexmap.specs.IndexMap.{insert_entry}
 use Rattle.hlc_diagram.specs.CrossLaws.{FailsFirst, is_again}

@@ -1,44 +1,30 @@
 -- The laws of lanes.
-use Rattle.std.proofs.Common.{◌≡◌, ◌∙◌, ℕ, ◌+◌, ◌<◌, ◌≤◌, ◌==◌, Bool, true, false, inl, inr, List, [], ◌∷◌, Contains, arith, ap, map, refl, subst}
+use Rattle.std.proofs.Common.{◌≡◌, ◌∙◌, ℕ, ◌+◌, ◌<◌, ◌≤◌, ◌==◌, Bool, true, false, inl, inr, All, List, [], ◌∷◌, Contains, Option, arith, ap, length, map, refl, subst, sym}
 use Rattle.std.specs.Prelude.{nat_lt}
 use Rattle.std.proofs.lemmas.Bool.{cases_Bool}
 use Rattle.std.proofs.lemmas.Bool.Decides.{nat_tests}
-use Rattle.std.proofs.lemmas.List.Elements.{Contains-append_cases, Contains-append_left, Contains-append_right, Contains-get_or}
+use Rattle.std.proofs.lemmas.List.Elements.{All-contains, Contains-get_or}
 use Rattle.std.proofs.lemmas.List.Sums.{sum_by-cons}
 use Rattle.hlc_stamp.specs.Ids.{is_among}
 use Rattle.hlc_causality.specs.Places.{places_below}
 use Rattle.hlc_causality.proofs.PlacesBelow.{contains_passing, length-places_below, passing_from_contains, place_at}
 use Rattle.hlc_figures.specs.Columns.{places_from}
-use Rattle.hlc_figures.specs.Content.{Content, node_at}
+use Rattle.hlc_figures.specs.Content.{Content, NodesExist, node_at}
+use Rattle.hlc_figures.specs.Rows.{event_row}
+use Rattle.hlc_figures.specs.declared.rows.Row.{Row}
+use Rattle.hlc_stamp.specs.declared.id.EventId.{EventId}
+use Rattle.hlc_svg.specs.declared.frame.Frame.{Frame}
 use Rattle.hlc_figures.specs.FigureText.{NamedLane, named_lane_of}
 use Rattle.hlc_figures.specs.Lanes.{lane_of, lanes_of}
 use Rattle.hlc_svg.specs.Frame.{x_of}
 use Rattle.hlc_svg.specs.declared.dot.Dot.{Dot}
-use Rattle.hlc_diagram.specs.Layout.{lanes_in}
-use Rattle.hlc_diagram.specs.Laws.{DotsStandOnLanes, EachNodeHasItsLane, IsInRange, LanesAreOfDots, dots_in}
+use Rattle.hlc_diagram.specs.Layout.{frame_of, lanes_in}
+use Rattle.hlc_diagram.specs.Laws.{DotsStandOnLanes, EachNodeHasItsLane, LanesAreOfDots}
 use Rattle.hlc_diagram.specs.Picture.{picture_of}
 use Rattle.hlc_diagram.specs.declared.view.View.{View}
-use Rattle.hlc_figures.proofs.NodeLanes.{among_at, among_from, counts}
-use Rattle.hlc_figures.proofs.Placed.{in_one, made_of}
-use Rattle.hlc_diagram.proofs.Drawn.{count, dot, dot_is, dot_there, drawn_there, first, frame, in_range, lanes}
-
--- what is mapped comes from what was there
-pub mapped : {X Y : Type 0} (f : X → Y) (xs : List X) (y : Y) → Contains (map f xs) y → (x : X) × Contains xs x × (f x ≡ y)
-mapped f [] y among = let lt = among.1 in absurd (omega arith)
-mapped f (x ∷ xs) y among =
-    elim (Contains-append_cases (f x ∷ []) (map f xs) y among) [
-      | inl here ↦ (x, Contains-append_left (x ∷ []) xs x (0, omega arith, refl), in_one (f x) y here)
-      | inr later ↦ (let made = mapped f xs y later in (made.0, Contains-append_right (x ∷ []) xs made.0 made.1, made.2))
-    ]
-
--- and all that was there is mapped
-pub mapped_there : {X Y : Type 0} (f : X → Y) (xs : List X) (x : X) → Contains xs x → Contains (map f xs) (f x)
-mapped_there f [] x among = let lt = among.1 in absurd (omega arith)
-mapped_there f (y ∷ xs) x among =
-    elim (Contains-append_cases (y ∷ []) xs x among) [
-      | inl here ↦ Contains-append_left (f y ∷ []) (map f xs) (f x) (0, omega arith, ap f (in_one y x here))
-      | inr later ↦ Contains-append_right (f y ∷ []) (map f xs) (f x) (mapped_there f xs x later)
-    ]
+use Rattle.hlc_figures.proofs.NodeLanes.{among_at, among_from, counts, places_exist}
+use Rattle.hlc_diagram.proofs.Drawn.{count, first}
+use Rattle.hlc_diagram.proofs.DrawnRows.{dot_stands, dots, mapped, mapped_there}
 
 -- a node counts for no less before a later one
 counts_no_less : (a b x : ℕ) → a ≤ b → counts a x ≤ counts b x
@@ -105,44 +91,64 @@ module _ (c : Content) (places : List ℕ) where
             rw some (contains_passing test c.nodes (node_at c e) exists (among_at (map (node_at c) places) (node_at c e) k within at))
       ]
 
+-- so it is in a picture with the lanes of those events that have a dot
+module _ (c : Content) (explained : Option EventId) (frame : Frame) (places : List ℕ) (rows : List Row)
+    (listed : map (λ (d : Dot). d.event.0) (dots c explained frame (lanes_of c places) rows) ≡ places) where
+  abbrev own_lanes : List ℕ
+  own_lanes = lanes_of c places
+
+  pub lanes_have_dots : (lane : NamedLane) → c.every_lane ≡ false → Contains (map (named_lane_of c frame own_lanes) own_lanes) lane →
+      (d : Dot) × Contains (dots c explained frame own_lanes rows) d × (node_at c d.event.0 ≡ lane.lane.node.0) × (d.at.x ≡ lane.lane.x)
+  lanes_have_dots lane some among =
+      let is = mapped (named_lane_of c frame own_lanes) own_lanes lane among in
+      let found = lane_has_event c places some is.0 is.1 in
+      let has = subst (λ (xs : List ℕ). Contains xs found.0) (sym listed) found.1 in
+      let there = mapped (λ (d : Dot). d.event.0) (dots c explained frame own_lanes rows) found.0 has in
+      let node : node_at c there.0.event.0 ≡ is.0 = ap (node_at c) there.2 ∙ found.2 in
+      let at = (dot_stands c explained frame own_lanes rows there.0 there.1).1.lane in
+      subst (λ (l : NamedLane). (d : Dot) × Contains (dots c explained frame own_lanes rows) d × (node_at c d.event.0 ≡ l.lane.node.0) × (d.at.x ≡ l.lane.x)) is.2
+      (there.0, there.1, node, at ∙ ap (λ (n : ℕ). x_of frame (lane_of own_lanes n)) node)
+
+  pub dots_have_lanes : All (λ e. e < length c.events) places → (d : Dot) → NodesExist c → Contains (dots c explained frame own_lanes rows) d →
+      (l : NamedLane) × Contains (map (named_lane_of c frame own_lanes) own_lanes) l × (l.lane.node.0 ≡ node_at c d.event.0) × (d.at.x ≡ l.lane.x)
+      × (l.name ≡ c.name (node_at c d.event.0))
+  dots_have_lanes all d exist among =
+      let has = subst (λ (xs : List ℕ). Contains xs d.event.0) listed (mapped_there (λ (d : Dot). d.event.0) (dots c explained frame own_lanes rows) d among) in
+      let exists = exist d.event.0 (All-contains (λ (e : ℕ). e < length c.events) places d.event.0 all has) in
+      let at = (dot_stands c explained frame own_lanes rows d among).1.lane in
+      let node = node_at c d.event.0 in
+      (named_lane_of c frame own_lanes node, mapped_there (named_lane_of c frame own_lanes) own_lanes node (event_has_lane c places d.event.0 has exists), refl, at, refl)
+
+-- the events of a range are listed
+events_listed : (c : Content) (explained : Option EventId) (frame : Frame) (lanes places : List ℕ) →
+    map (λ (d : Dot). d.event.0) (dots c explained frame lanes (map event_row places)) ≡ places
+events_listed c explained frame lanes [] = refl
+events_listed c explained frame lanes (e ∷ places) = ap (λ (rest : List ℕ). e ∷ rest) (events_listed c explained frame lanes places)
+
 module _ (c : Content) (view : View) where
-  pub lane_there : (node : ℕ) → Contains (lanes_in c view) node → Contains (picture_of c view).lanes (named_lane_of c (frame c view) (lanes c view) node)
-  lane_there node has = mapped_there (named_lane_of c (frame c view) (lanes c view)) (lanes c view) node has
+  abbrev places : List ℕ
+  places = places_from (first c view) (count c view)
 
-  -- the places of a picture are those of the events of the range
-  place_in_range : (e : ℕ) → Contains (places_from (first c view) (count c view)) e → IsInRange c view e
-  place_in_range e among =
-      let made = made_of (λ (places : List ℕ). places) (λ (p : ℕ). p ∷ []) refl (λ places p. refl) (first c view) (count c view) e among in
-      let same : made.0 ≡ e = in_one made.0 e made.3 in
-      subst (λ (e : ℕ). IsInRange c view e) same (in_range c view made.0 made.1 made.2)
+  listed_of_view : map (λ (d : Dot). d.event.0) (dots c view.explained (frame_of c view) (lanes_in c view) (map event_row places)) ≡ places
+  listed_of_view = events_listed c view.explained (frame_of c view) (lanes_in c view) places
 
-  in_places : (e : ℕ) → IsInRange c view e → Contains (places_from (first c view) (count c view)) e
-  in_places e r = drawn_there c view (λ (places : List ℕ). places) (λ (p : ℕ). p ∷ []) refl (λ places p. refl) e e r (0, omega arith, refl)
+  pub lane_there : (node : ℕ) → Contains (lanes_in c view) node → Contains (picture_of c view).lanes (named_lane_of c (frame_of c view) (lanes_in c view) node)
+  lane_there node has = mapped_there (named_lane_of c (frame_of c view) (lanes_in c view)) (lanes_in c view) node has
 
-  nodes_named : (xs : List ℕ) → map (λ (lane : NamedLane). lane.lane.node.0) (map (named_lane_of c (frame c view) (lanes c view)) xs) ≡ xs
+  nodes_named : (xs : List ℕ) → map (λ (lane : NamedLane). lane.lane.node.0) (map (named_lane_of c (frame_of c view) (lanes_in c view)) xs) ≡ xs
   nodes_named [] = refl
   nodes_named (x ∷ xs) = ap (λ (rest : List ℕ). x ∷ rest) (nodes_named xs)
 
 pub lanes_are_of_dots : LanesAreOfDots
 lanes_are_of_dots c view lane some among =
-    let is = mapped (named_lane_of c (frame c view) (lanes c view)) (lanes c view) lane among in
-    let found = lane_has_event c (places_from (first c view) (count c view)) some is.0 is.1 in
-    let e = found.0 in
-    let inside = place_in_range c view e found.1 in
-    subst (λ (l : NamedLane). (d : Dot) × Contains (dots_in (picture_of c view)) d × (node_at c d.event.0 ≡ l.lane.node.0) × (d.at.x ≡ l.lane.x)) is.2
-    (dot c view e, dot_there c view e inside, found.2, ap (λ (node : ℕ). x_of (frame c view) (lane_of (lanes c view) node)) found.2)
+    lanes_have_dots c view.explained (frame_of c view) (places c view) (map event_row (places c view)) (listed_of_view c view) lane some among
 
 pub dots_stand_on_lanes : DotsStandOnLanes
 dots_stand_on_lanes c view d exist among =
-    let is = dot_is c view d among in
-    let e = is.0 in
-    let exists : node_at c e < c.nodes = exist e is.1.exists in
-    let has = event_has_lane c (places_from (first c view) (count c view)) e (in_places c view e is.1) exists in
-    subst (λ (d : Dot). (l : NamedLane) × Contains (picture_of c view).lanes l × (l.lane.node.0 ≡ node_at c d.event.0) × (d.at.x ≡ l.lane.x)
-    × (l.name ≡ c.name (node_at c d.event.0))) is.2
-    (named_lane_of c (frame c view) (lanes c view) (node_at c e), lane_there c view (node_at c e) has, refl, refl, refl)
+    dots_have_lanes c view.explained (frame_of c view) (places c view) (map event_row (places c view)) (listed_of_view c view)
+    (places_exist (first c view) (count c view) (length c.events) (omega arith)) d exist among
 
 pub each_node_has_its_lane : EachNodeHasItsLane
 each_node_has_its_lane c view every =
     let all : lanes_in c view ≡ places_below c.nodes = rw every refl in
-    nodes_named c view (lanes c view) ∙ all
+    nodes_named c view (lanes_in c view) ∙ all

@@ -1,9 +1,9 @@
 pub mod Apart
 pub mod ChainDrawn
-pub mod ChainTexts
 pub mod Crosses
 pub mod Crossings
 pub mod Drawn
+pub mod DrawnRows
 pub mod FailedMessages
 pub mod Faults
 pub mod GoingOn

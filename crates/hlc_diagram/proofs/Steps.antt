@@ -1,5 +1,5 @@
 -- The steps of the chain are thick.
-use Rattle.std.proofs.Common.{◌≡◌, ℕ, ◌<◌, ◌==◌, true, inl, inr, List, [], ◌∷◌, ◌++◌, Contains, Option, Some, None, arith, ap, length, map, refl, subst, sym}
+use Rattle.std.proofs.Common.{◌≡◌, ℕ, ◌<◌, ◌==◌, true, inl, inr, List, [], Contains, Option, Some, None, arith, ap, length, refl, subst, sym}
 use Rattle.std.specs.List.{cons_option, filter_map}
 use Rattle.std.specs.Prelude.{nat_lt}
 use Rattle.std.proofs.lemmas.Bool.{and_from, cases_Bool, cases_eq}
@@ -25,10 +25,10 @@ use Rattle.hlc_svg.specs.declared.dot.Dot.{Dot}
 use Rattle.hlc_svg.specs.declared.shapes.Link.{Link}
 use Rattle.hlc_diagram.specs.declared.view.View.{View}
 use Rattle.hlc_diagram.proofs.Crossings.{end_to, entering, entering_at, entering_more, entering_there}
-use Rattle.hlc_diagram.proofs.Drawn.{arrow, arrows, arrows_more, chosen_is_chain, dot, dot_is, drawn_there, figure, first, frame, lanes}
+use Rattle.hlc_diagram.proofs.Drawn.{arrow, arrows, arrows_more, chosen_is_chain, dot, dot_is, drawn, drawn_more, drawn_there, figure, first, frame, lanes}
 use Rattle.hlc_figures.proofs.Links.{clock_size}
 use Rattle.hlc_figures.proofs.NodeLanes.{among_at}
-use Rattle.hlc_figures.proofs.Placed.{parts_more}
+use Rattle.hlc_figures.proofs.Placed.{AddsItems, parts_more}
 
 pub forced_by : (t : ClockEvents) (pairs : List Pair) (d f : ℕ) (found : Option ℕ) → Finds (λ c. IsClockForcing t pairs c f) found
     → IsClockForcing t pairs d f → found ≡ Some d
@@ -38,13 +38,13 @@ forced_by t pairs d f (Some c) found forces = ap (λ (x : ℕ). Some x) (clock_f
 module _ (c : Content) (view : View) (d f : ℕ) (inside : IsInRange c view f) (marked : marked_at c view.explained f ≡ true)
     (forced : forcing_at c f ≡ Some d) where
   abbrev links : List ℕ → List Link
-  links places = filter_map (λ f. f.link) (map (figure c view) places)
+  links places = filter_map (λ f. f.link) (drawn c view places)
 
   abbrev link_at : ℕ → List Link
   link_at e = cons_option (link_of c view.explained (frame c view) (lanes c view) e) []
 
-  links_more : (places : List ℕ) (p : ℕ) → links (places ++ p ∷ []) ≡ links places ++ link_at p
-  links_more places p = parts_more (λ (f : Figure). f.link) (figure c view) places p
+  links_more : AddsItems links link_at
+  links_more places p = parts_more (λ (f : Figure). f.link) (drawn c view) (figure c view) (drawn_more c view) places p
 
   -- along a lane
   linked : node_at c d ≡ node_at c f → HasThickLine (picture_of c view) (dot c view f)

@@ -1,5 +1,5 @@
 -- Texts that are added one after the other.
-use Rattle.std.proofs.Common.{◌≡◌, ◌∙◌, ℕ, ◌+◌, ◌-◌, ◌<◌, ◌≤◌, List, [], ◌∷◌, ◌++◌, Option, Some, None, ap, append_assoc, append-nil, arith, codes, flat_map, get_or, length, map, refl, sym, subst, take}
+use Rattle.std.proofs.Common.{◌≡◌, ◌∙◌, ℕ, ◌+◌, ◌<◌, ◌≤◌, List, [], ◌∷◌, ◌++◌, Option, Some, None, ap, append_assoc, append-nil, codes, flat_map, get_or, length, map, refl, sym, subst, take}
 use Rattle.hlc_stamp.specs.declared.id.EventId.{EventId}
 use Rattle.hlc_causality.specs.Places.{places_below}
 use Rattle.std.specs.Io.KnownBytes.{Appends, Keeps, append_known}
@@ -7,16 +7,17 @@ use Rattle.std.specs.List.{cons_option, filter_map}
 use Rattle.std.proofs.KnownBytes.{Appends-kept, Appends-trans}
 use Rattle.std.proofs.lemmas.List.{take_all, take_more}
 use Rattle.std.proofs.lemmas.List.Concat.{flat_map-append}
-use Rattle.hlc_figures.specs.Columns.{places_in, places_from}
 use Rattle.hlc_figures.specs.Content.{Content}
 use Rattle.hlc_diagram.specs.Cross.{cross_of, cross_text}
 use Rattle.hlc_figures.specs.Head.{caption_of, head_text, heading_of}
 use Rattle.hlc_diagram.specs.Picture.{GrowsBy, picture_in, picture_text}
-use Rattle.hlc_figures.specs.FigureText.{back_text, figure_of, front_text, lines_text, named_lane_of, named_lane_text}
+use Rattle.hlc_figures.specs.DrawnRow.{drawn_row, layer_text}
+use Rattle.hlc_figures.specs.FigureText.{named_lane_of, named_lane_text}
+use Rattle.hlc_figures.specs.declared.layer.Layer.TheVariants.{Back, Front, Lines}
+use Rattle.hlc_figures.specs.declared.rows.Row.{Row}
 use Rattle.hlc_svg.specs.Shapes.{if_drawn}
 use Rattle.hlc_svg.specs.declared.frame.Frame.{Frame}
 use Rattle.hlc_diagram.specs.declared.failed.Failed.{Failed}
-use Rattle.hlc_figures.proofs.Places.{places_from-more}
 use Rattle.hlc_figures.proofs.Cells.{flat_map-map}
 
 -- what waits grows
@@ -51,29 +52,6 @@ module _ {X : Type 0} (piece : X → List ℕ) where
       let added : GrowsBy b b mid grown (piece x ++ []) = adds_grown b mid grown (piece x ++ []) grows in
       subst (GrowsBy a c old new) text
       (adds_kept a b c old grown new _ (adds_then a b b old mid grown (flat_map piece before) (piece x ++ []) h added) k)
-
--- what place after place adds
-pub places_added :
-    (piece : ℕ → List ℕ) (first place : ℕ) (a b c : Option (List ℕ)) (old mid grown new : List ℕ) → first ≤ place →
-    GrowsBy a b old mid (flat_map piece (places_from first (place - first))) → grown ≡ mid ++ piece place →
-    Keeps (append_known b grown) (append_known c new) →
-    GrowsBy a c old new (flat_map piece (places_from first (place + 1 - first)))
-places_added piece first place a b c old mid grown new le h e k =
-    subst (λ (places : List ℕ). GrowsBy a c old new (flat_map piece places)) (sym (places_from-more first place le))
-    (adds_more piece a b c old mid grown new (places_from first (place - first)) place h e k)
-
-pub places_none :
-    (piece : ℕ → List ℕ) (first : ℕ) (a : Option (List ℕ)) (old : List ℕ) →
-    GrowsBy a a old old (flat_map piece (places_from first (first - first)))
-places_none piece first a old =
-    let none : 0 ≡ first - first = omega arith in
-    subst (λ (n : ℕ). GrowsBy a a old old (flat_map piece (places_from first n))) none (adds_none piece a old)
-
-pub places_all :
-    (piece : ℕ → List ℕ) (first count all : ℕ) (a b : Option (List ℕ)) (old new : List ℕ) → count ≡ all →
-    GrowsBy a b old new (flat_map piece (places_from first count)) →
-    GrowsBy a b old new (flat_map piece (places_from first all))
-places_all piece first count all a b old new last h = subst (λ (n : ℕ). GrowsBy a b old new (flat_map piece (places_from first n))) last h
 
 -- what waits is handed over
 pub handed_over : (a b c : Option (List ℕ)) (waiting text : List ℕ) → GrowsBy a b [] waiting text → Appends b c waiting → Appends a c text
@@ -128,23 +106,23 @@ module _ {X Y : Type 0} (text : Y → List ℕ) (f : X → Option Y) where
 
 -- the parts of a picture, one after the other
 pub parts_of_picture :
-    (c : Content) (frame : Frame) (lanes : List ℕ) (explained : Option EventId) (failed : List Failed) →
+    (c : Content) (frame : Frame) (lanes : List ℕ) (explained : Option EventId) (rows : List Row) (failed : List Failed) →
     head_text frame (caption_of c explained frame) c.legend (map (heading_of c frame) (places_below c.columns))
-    ++ (flat_map (λ e. back_text (figure_of c explained frame lanes e)) (places_in frame)
+    ++ (flat_map (λ row. layer_text Back (drawn_row c explained frame lanes row)) rows
     ++ (flat_map (λ node. named_lane_text (named_lane_of c frame lanes node)) lanes
-    ++ ((flat_map (λ e. lines_text (figure_of c explained frame lanes e)) (places_in frame)
+    ++ ((flat_map (λ row. layer_text Lines (drawn_row c explained frame lanes row)) rows
     ++ flat_map (λ m. if_drawn cross_text (cross_of c frame lanes m)) failed)
-    ++ (flat_map (λ e. front_text (figure_of c explained frame lanes e)) (places_in frame) ++ codes "</svg>\n"))))
-    ≡ picture_text (picture_in c frame lanes explained failed)
+    ++ (flat_map (λ row. layer_text Front (drawn_row c explained frame lanes row)) rows ++ codes "</svg>\n"))))
+    ≡ picture_text (picture_in c frame lanes explained rows failed)
 unfolding picture_text
-parts_of_picture c frame lanes explained failed =
-    let back = flat_map-map back_text (figure_of c explained frame lanes) (places_in frame) in
+parts_of_picture c frame lanes explained rows failed =
+    let back = flat_map-map (layer_text Back) (drawn_row c explained frame lanes) rows in
     let named = flat_map-map named_lane_text (named_lane_of c frame lanes) lanes in
-    let lines = flat_map-map lines_text (figure_of c explained frame lanes) (places_in frame) in
+    let lines = flat_map-map (layer_text Lines) (drawn_row c explained frame lanes) rows in
     let crosses = flat_map-filter_map cross_text (cross_of c frame lanes) failed in
-    let front = flat_map-map front_text (figure_of c explained frame lanes) (places_in frame) in
-    let figures = map (figure_of c explained frame lanes) (places_in frame) in
+    let front = flat_map-map (layer_text Front) (drawn_row c explained frame lanes) rows in
+    let drawn = map (drawn_row c explained frame lanes) rows in
     let then =
-    append_assoc (flat_map lines_text figures) (flat_map cross_text (filter_map (cross_of c frame lanes) failed))
-    (flat_map front_text figures ++ codes "</svg>\n") in
+    append_assoc (flat_map (layer_text Lines) drawn) (flat_map cross_text (filter_map (cross_of c frame lanes) failed))
+    (flat_map (layer_text Front) drawn ++ codes "</svg>\n") in
     rw (back, named, lines, crosses, front, then) refl

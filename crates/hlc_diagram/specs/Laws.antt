@@ -15,7 +15,8 @@ use Rattle.hlc_svg.specs.Shapes.{reach_of}
 use Rattle.hlc_svg.specs.Path.{arrow_end, arrow_start, course_of, path_of}
 use Rattle.hlc_figures.specs.FigureText.{Figure, NamedLane}
 use Rattle.hlc_diagram.specs.Picture.{Picture, picture_of}
-use Rattle.hlc_figures.specs.Row.{row_cells}
+use Rattle.hlc_figures.specs.DrawnRow.{figure_in}
+use Rattle.hlc_figures.specs.Row.{row_at}
 use Rattle.hlc_figures.specs.Title.{title_text}
 use Rattle.hlc_svg.specs.declared.frame.TheConstants.{ROW, TOP}
 use Rattle.hlc_svg.specs.declared.arrow.Arrow.{Arrow}
@@ -27,15 +28,18 @@ use Rattle.hlc_diagram.specs.declared.view.View.{View}
 use Rattle.hlc_svg.specs.Clear.{KeepsClear, NeverRises}
 use Rattle.hlc_svg.specs.Meeting.{LieApart}
 
--- the dots, the arrows and the lines along lanes of a picture
+-- what is drawn of the events of a picture; the dots, the arrows and the lines along lanes
+abbrev pub figures_in : Picture → List Figure
+figures_in p = filter_map figure_in p.rows
+
 abbrev pub dots_in : Picture → List Dot
-dots_in p = map (λ f. f.dot) p.figures
+dots_in p = map (λ f. f.dot) (figures_in p)
 
 abbrev pub arrows_in : Picture → List Arrow
-arrows_in p = filter_map (λ f. f.arrow) p.figures
+arrows_in p = filter_map (λ f. f.arrow) (figures_in p)
 
 abbrev pub links_in : Picture → List Link
-links_in p = filter_map (λ f. f.link) p.figures
+links_in p = filter_map (λ f. f.link) (figures_in p)
 
 -- the event at e is one of the range
 pub record IsInRange (c : Content) (view : View) (e : ℕ) : Type 0 where
@@ -59,9 +63,12 @@ abbrev pub DotsAreOfEvents : Type 0
 DotsAreOfEvents = (c : Content) (view : View) (dot : Dot) → Contains (dots_in (picture_of c view)) dot → IsDotOfEvent c view dot
 
 -- the title of a dot, and the row beside it, are those of its event
+abbrev pub TitlesAreOfTheDotsIn : Content → Picture → Type 0
+TitlesAreOfTheDotsIn c p = (f : Figure) → Contains (figures_in p) f →
+    (f.title ≡ title_text c f.dot.event.0) × (f.row ≡ row_at c p.frame f.dot.at.y f.dot.event.0)
+
 abbrev pub TitlesAreOfTheDots : Type 0
-TitlesAreOfTheDots = (c : Content) (view : View) (f : Figure) → Contains (picture_of c view).figures f →
-    (f.title ≡ title_text c f.dot.event.0) × (f.row ≡ row_cells c (picture_of c view).frame f.dot.event.0)
+TitlesAreOfTheDots = (c : Content) (view : View) → TitlesAreOfTheDotsIn c (picture_of c view)
 
 -- time runs down: the dot of a later event stands lower
 abbrev pub TimeRunsDown : Type 0
@@ -105,15 +112,17 @@ ArrowsAreOfDeliveries = (c : Content) (view : View) (arrow : Arrow) → SendsCom
 
 -- the arrows over the upper border, and over the lower one
 abbrev pub entering_in : Picture → List End
-entering_in p = filter_map (λ f. f.entering) p.figures
+entering_in p = filter_map (λ f. f.entering) (figures_in p)
 
 abbrev pub leaving_in : Picture → List End
-leaving_in p = filter_map (λ f. f.leaving) p.figures
+leaving_in p = filter_map (λ f. f.leaving) (figures_in p)
 
 -- no arrow comes nearer to a dot than half its width and height: neither one between two dots, which it only touches, nor one over a border
+abbrev pub ArrowsKeepClearIn : Picture → Type 0
+ArrowsKeepClearIn p = (arrow : Arrow) (dot : Dot) → Contains (arrows_in p) arrow → Contains (dots_in p) dot → KeepsClear dot (path_of arrow.route)
+
 abbrev pub ArrowsKeepClear : Type 0
-ArrowsKeepClear = (c : Content) (view : View) (arrow : Arrow) (dot : Dot) → Contains (arrows_in (picture_of c view)) arrow →
-    Contains (dots_in (picture_of c view)) dot → KeepsClear dot (path_of arrow.route)
+ArrowsKeepClear = (c : Content) (view : View) → ArrowsKeepClearIn (picture_of c view)
 
 abbrev pub BorderArrowsKeepClear : Type 0
 BorderArrowsKeepClear = (c : Content) (view : View) (end : End) (dot : Dot) →
@@ -136,15 +145,21 @@ abbrev pub BorderArrowsTurnInRows : Type 0
 BorderArrowsTurnInRows = (c : Content) (view : View) → TurnInRows (entering_in (picture_of c view)) × TurnInRows (leaving_in (picture_of c view))
 
 -- unless each node has a lane, the node of a lane has a dot on it
+abbrev pub LanesAreOfDotsIn : Content → Picture → Type 0
+LanesAreOfDotsIn c p = (lane : NamedLane) → c.every_lane ≡ false → Contains p.lanes lane →
+    (dot : Dot) × Contains (dots_in p) dot × (node_at c dot.event.0 ≡ lane.lane.node.0) × (dot.at.x ≡ lane.lane.x)
+
 abbrev pub LanesAreOfDots : Type 0
-LanesAreOfDots = (c : Content) (view : View) (lane : NamedLane) → c.every_lane ≡ false → Contains (picture_of c view).lanes lane →
-    (dot : Dot) × Contains (dots_in (picture_of c view)) dot × (node_at c dot.event.0 ≡ lane.lane.node.0) × (dot.at.x ≡ lane.lane.x)
+LanesAreOfDots = (c : Content) (view : View) → LanesAreOfDotsIn c (picture_of c view)
 
 -- and each dot stands on the lane of its node, which has its name
-abbrev pub DotsStandOnLanes : Type 0
-DotsStandOnLanes = (c : Content) (view : View) (dot : Dot) → NodesExist c → Contains (dots_in (picture_of c view)) dot →
-    (lane : NamedLane) × Contains (picture_of c view).lanes lane × (lane.lane.node.0 ≡ node_at c dot.event.0) × (dot.at.x ≡ lane.lane.x)
+abbrev pub DotsStandOnLanesIn : Content → Picture → Type 0
+DotsStandOnLanesIn c p = (dot : Dot) → NodesExist c → Contains (dots_in p) dot →
+    (lane : NamedLane) × Contains p.lanes lane × (lane.lane.node.0 ≡ node_at c dot.event.0) × (dot.at.x ≡ lane.lane.x)
     × (lane.name ≡ c.name (node_at c dot.event.0))
+
+abbrev pub DotsStandOnLanes : Type 0
+DotsStandOnLanes = (c : Content) (view : View) → DotsStandOnLanesIn c (picture_of c view)
 
 -- if each node has a lane, the lanes are those of the nodes, in order
 abbrev pub EachNodeHasItsLane : Type 0

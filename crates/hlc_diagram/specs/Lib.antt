@@ -23,9 +23,12 @@ pub use Rattle.hlc_figures.specs.ChainRows
 pub use Rattle.hlc_figures.specs.Chosen
 pub use Rattle.hlc_figures.specs.Columns
 pub use Rattle.hlc_figures.specs.Content
+pub use Rattle.hlc_figures.specs.DrawnRow
 pub use Rattle.hlc_figures.specs.Figure
 pub use Rattle.hlc_figures.specs.FigureText
 pub use Rattle.hlc_figures.specs.Head
 pub use Rattle.hlc_figures.specs.Row
+pub use Rattle.hlc_figures.specs.Rows
 pub use Rattle.hlc_figures.specs.Scene
+pub use Rattle.hlc_figures.specs.Standing
 pub use Rattle.hlc_figures.specs.Title

@@ -1,33 +1,26 @@
 // The picture of a chain alone.
 
-ghost use Rattle.std.specs.Prelude.{◌≡◌, ◌<◌, ◌≤◌, All, IfErr, IfOk, IsErrOf, OnOk, Some, length, string_bytes};
+ghost use Rattle.std.specs.Prelude.{◌≡◌, ◌<◌, ◌≤◌, All, IfOk, IsErrOf, OnOk, Some, length};
 ghost use Rattle.std.specs.Io.KnownBytes.{Appends};
-ghost use Rattle.std.specs.List.{flat_map};
 ghost use Rattle.hlc_causality.specs.Feasible.{IsLeastFeasible};
 ghost use Rattle.hlc_stamp.specs.Ids.{places_of};
-ghost use Rattle.hlc_figures.specs.ChainFigure.{RowExists, item_of, item_text};
-ghost use Rattle.hlc_diagram.specs.ChainPicture.{chain_picture_in, chain_picture_of, chain_picture_text, chain_view, first_or, frame_around};
+ghost use Rattle.hlc_diagram.specs.ChainPicture.{chain_picture_of, chain_view, first_or, frame_around};
+ghost use Rattle.hlc_diagram.specs.Picture.{picture_text};
 ghost use Rattle.hlc_figures.specs.ChainRows.{rows_of};
 ghost use Rattle.hlc_figures.specs.Chosen.{IsMissing};
 ghost use Rattle.hlc_figures.specs.Columns.{AreColumnsOf};
 ghost use Rattle.hlc_figures.specs.Content.{clock_events_of};
-ghost use Rattle.hlc_diagram.specs.Fault.{IsOfOutput};
-ghost use Rattle.hlc_figures.specs.Head.{caption_of};
 ghost use Rattle.hlc_figures.specs.Lanes.{lanes_of};
-ghost use Rattle.hlc_diagram.specs.Picture.{GrowsBy};
 
 use crate::draw_fault::DrawFault;
-use crate::drawing::{draw_lanes, finish, lacks, spill};
+use crate::drawing::draw_scene;
 use crate::layout::{Layout, lay_out};
 use crate::marks::marked_chain;
 use crate::view::View;
-use hlc_figures::caption::caption_for;
-use hlc_figures::chain_rows::{ChainRow, chain_rows};
-use hlc_figures::chain_text::put_item;
-use hlc_figures::head::put_head;
+use hlc_figures::chain_rows::chain_rows;
 use hlc_figures::kept::count;
 use hlc_figures::lanes::lanes_at;
-use hlc_figures::layer::Layer;
+use hlc_figures::rows::{Row, Rows};
 use hlc_figures::scene::Scene;
 use hlc_figures::subject::Subject;
 use hlc_stamp::EventId;
@@ -35,56 +28,8 @@ use hlc_svg::frame::{FIRST_ROW, ROW};
 use std::alloc::{AllocError, Global};
 use std::io::Write;
 
-fn draw_items<S: Subject, W: Write>(
-    text: &mut String,
-    layer: Layer,
-    subject: &S,
-    scene: &Scene<'_>,
-    rows: &[ChainRow],
-    writer: &mut W,
-) -> Result<(), DrawFault>
-    requires columns { AreColumnsOf (S.content subject.now) scene.now.frame scene.now.columns.now }
-    requires exist { All (RowExists (S.content subject.now)) rows.now }
-    ensures text { OnOk result (GrowsBy (W.contents writer.old) (W.contents writer.new) (string_bytes text.old) (string_bytes text.new)
-        (flat_map (λ row. item_text layer (item_of (S.content subject.now) scene.now.frame scene.now.lanes.now row)) rows.now)) }
-    ensures fault { IfErr result IsOfOutput }
-{
-    for row in rows {
-        put_item(text, layer, subject, scene, *row)?;
-        spill(text, writer)?;
-    }
-    Ok(())
-}
-
-// Draws the rows of a chain.
-fn draw_rows<S: Subject, W: Write>(
-    alloc: Global,
-    subject: &S,
-    scene: &Scene<'_>,
-    event: EventId,
-    rows: &[ChainRow],
-    caption: &str,
-    writer: &mut W,
-) -> Result<(), DrawFault>
-    requires columns { AreColumnsOf (S.content subject.now) scene.now.frame scene.now.columns.now }
-    requires lanes { All (λ node. node < (S.content subject.now).nodes) scene.now.lanes.now }
-    requires exist { All (RowExists (S.content subject.now)) rows.now }
-    requires caption { caption.now ≡ caption_of (S.content subject.now) (Some event) scene.now.frame }
-    ensures text { OnOk result (Appends (W.contents writer.old) (W.contents writer.new)
-        (chain_picture_text (chain_picture_in (S.content subject.now) scene.now.frame scene.now.lanes.now event rows.now))) }
-    ensures fault { IfErr result IsOfOutput }
-{
-    let mut text = String::new(alloc);
-    put_head(&mut text, subject, scene, caption)?;
-    draw_items(&mut text, Layer::Back, subject, scene, rows, writer)?;
-    draw_lanes(&mut text, subject, scene, writer)?;
-    draw_items(&mut text, Layer::Lines, subject, scene, rows, writer)?;
-    draw_items(&mut text, Layer::Front, subject, scene, rows, writer)?;
-    finish(&mut text, writer)
-}
-
 // How many rows a chain has.
-fn count_rows<S: Subject>(subject: &S, rows: &[ChainRow]) -> u32
+fn count_rows<S: Subject>(subject: &S, rows: &[Row]) -> u32
     requires { length rows.now ≤ length (S.content subject.now).events }
     ensures { result ≡ length rows.now }
 {
@@ -148,11 +93,11 @@ pub fn draw_chain<S: Subject, W: Write>(
 
     // What the writer got is the picture.
     ensures drawn { OnOk result (Appends (W.contents writer.old) (W.contents writer.new)
-        (chain_picture_text (chain_picture_of (S.content subject.now) event))) }
+        (picture_text (chain_picture_of (S.content subject.now) event))) }
 
     // The same holds if there is no such event: the picture says so.
     ensures drawn_without { IsErrOf result DrawFault.NoEvent → Appends (W.contents writer.old) (W.contents writer.new)
-        (chain_picture_text (chain_picture_of (S.content subject.now) event)) }
+        (picture_text (chain_picture_of (S.content subject.now) event)) }
     ensures no_event { IsErrOf result DrawFault.NoEvent → IsMissing (S.content subject.now).events (Some event) }
     ensures event { OnOk result (¬ IsMissing (S.content subject.now).events (Some event)) }
 {
@@ -162,15 +107,11 @@ pub fn draw_chain<S: Subject, W: Write>(
     let scene = Scene {
         frame: layout.frame,
         lanes: &layout.lanes,
+        rows: &Rows::Chain(rows),
         explained: Some(event),
         marks: &[],
         next: None,
         columns: &layout.columns,
     };
-    let caption = caption_for(alloc, subject, layout.frame, Some(event), &list)?;
-    draw_rows(alloc, subject, &scene, event, &rows, &caption, writer)?;
-    if lacks(subject, Some(event)) {
-        return Err(DrawFault::NoEvent);
-    }
-    Ok(())
+    draw_scene(alloc, subject, &scene, &list, &[], writer)
 }

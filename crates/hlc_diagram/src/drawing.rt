@@ -4,13 +4,15 @@ ghost use Rattle.std.specs.Prelude.{◌≡◌, ◌++◌, ◌<◌, ◌↔◌, All
 ghost use Rattle.std.specs.Io.KnownBytes.{Appends};
 ghost use Rattle.std.specs.List.{flat_map};
 ghost use Rattle.hlc_causality.specs.Feasible.{IsLeastFeasible};
-ghost use Rattle.hlc_figures.specs.Chosen.{IsMissing};
-ghost use Rattle.hlc_figures.specs.Columns.{places_in};
+ghost use Rattle.hlc_stamp.specs.Ids.{places_of};
+ghost use Rattle.hlc_figures.specs.Chosen.{IsMissing, chosen};
 ghost use Rattle.hlc_figures.specs.Content.{clock_events_of};
 ghost use Rattle.hlc_diagram.specs.Fault.{IsOfOutput};
 ghost use Rattle.hlc_figures.specs.Head.{caption_of};
-ghost use Rattle.hlc_diagram.specs.Picture.{GrowsBy, KeepsText, picture_in, picture_of, picture_text, picture_with};
-ghost use Rattle.hlc_figures.specs.FigureText.{figure_of, layer_text, named_lane_of, named_lane_text};
+ghost use Rattle.hlc_diagram.specs.Picture.{GrowsBy, KeepsText, drawn_scene, picture_of, picture_text, picture_with};
+ghost use Rattle.hlc_figures.specs.DrawnRow.{drawn_in, layer_text};
+ghost use Rattle.hlc_figures.specs.FigureText.{named_lane_of, named_lane_text};
+ghost use Rattle.hlc_figures.specs.Rows.{rows_in};
 ghost use Rattle.hlc_figures.specs.Scene.{IsScene};
 
 use crate::cross::draw_crosses;
@@ -22,9 +24,10 @@ use crate::undelivered::Undelivered;
 use crate::view::View;
 use hlc_execution::Execution;
 use hlc_figures::caption::caption_for;
-use hlc_figures::figure_text::{put_lane, put_layer};
+use hlc_figures::figure_text::put_lane;
 use hlc_figures::head::put_head;
-use hlc_figures::layer::Layer;
+use hlc_figures::layer::{Layer, put_layer};
+use hlc_figures::rows::Rows;
 use hlc_figures::scene::Scene;
 use hlc_figures::subject::Subject;
 use hlc_stamp::EventId;
@@ -66,7 +69,7 @@ pub(crate) fn spill<W: Write>(text: &mut String, writer: &mut W) -> Result<(), D
     hand_over(text, writer)
 }
 
-pub(crate) fn draw_lanes<S: Subject, W: Write>(
+fn draw_lanes<S: Subject, W: Write>(
     text: &mut String,
     subject: &S,
     scene: &Scene<'_>,
@@ -94,19 +97,18 @@ fn draw_layer<S: Subject, W: Write>(
 ) -> Result<(), DrawFault>
     requires { IsScene (S.content subject.now) scene.now }
     ensures text { OnOk result (GrowsBy (W.contents writer.old) (W.contents writer.new) (string_bytes text.old) (string_bytes text.new)
-        (flat_map (λ e. layer_text layer (figure_of (S.content subject.now) scene.now.explained scene.now.frame scene.now.lanes.now e))
-        (places_in scene.now.frame))) }
+        (flat_map (λ row. layer_text layer (drawn_in (S.content subject.now) scene.now row)) (rows_in scene.now.rows.now))) }
     ensures fault { IfErr result IsOfOutput }
 {
-    for place in scene.frame.first..scene.frame.end {
-        put_layer(text, layer, subject, scene, EventId(place))?;
+    for place in 0..scene.rows.len() {
+        put_layer(text, layer, subject, scene, scene.rows.row(place))?;
         spill(text, writer)?;
     }
     Ok(())
 }
 
 // Ends the picture, and hands all that waits to the writer.
-pub(crate) fn finish<W: Write>(text: &mut String, writer: &mut W) -> Result<(), DrawFault>
+fn finish<W: Write>(text: &mut String, writer: &mut W) -> Result<(), DrawFault>
     ensures text { OnOk result (Appends (W.contents writer.old) (W.contents writer.new) (string_bytes text.old ++ codes "</svg>\n")) }
     ensures fault { IfErr result IsOfOutput }
 {
@@ -118,8 +120,8 @@ pub(crate) fn finish<W: Write>(text: &mut String, writer: &mut W) -> Result<(), 
     Ok(())
 }
 
-// Draws a scene.
-fn draw_scene<S: Subject, W: Write>(
+// Draws what a scene has, one over the other.
+fn draw_parts<S: Subject, W: Write>(
     alloc: Global,
     subject: &S,
     scene: &Scene<'_>,
@@ -130,7 +132,7 @@ fn draw_scene<S: Subject, W: Write>(
     requires scene { IsScene (S.content subject.now) scene.now }
     requires caption { caption.now ≡ caption_of (S.content subject.now) scene.now.explained scene.now.frame }
     ensures text { OnOk result (Appends (W.contents writer.old) (W.contents writer.new)
-        (picture_text (picture_in (S.content subject.now) scene.now.frame scene.now.lanes.now scene.now.explained messages.now))) }
+        (picture_text (drawn_scene (S.content subject.now) scene.now messages.now))) }
     ensures fault { IfErr result IsOfOutput }
 {
     let mut text = String::new(alloc);
@@ -154,10 +156,36 @@ pub fn is_missing(execution: &Execution, event: Option<EventId>) -> bool
 }
 
 // Whether an event is named that a subject doesn't have.
-pub(crate) fn lacks<S: Subject>(subject: &S, event: Option<EventId>) -> bool
+fn lacks<S: Subject>(subject: &S, event: Option<EventId>) -> bool
     ensures { IsTrue result ↔ IsMissing (S.content subject.now).events event }
 {
     is_missing(subject.execution(), event)
+}
+
+/// Draws a scene in which this chain is marked, and says whether there is the event that it explains.
+pub(crate) fn draw_scene<S: Subject, W: Write>(
+    alloc: Global,
+    subject: &S,
+    scene: &Scene<'_>,
+    list: &[EventId],
+    messages: &[Failed],
+    writer: &mut W,
+) -> Result<(), DrawFault>
+    requires scene { IsScene (S.content subject.now) scene.now }
+    requires list { places_of list.now ≡ chosen (clock_events_of (S.content subject.now)) (S.content subject.now).stamps scene.now.explained }
+    ensures drawn { OnOk result (Appends (W.contents writer.old) (W.contents writer.new)
+        (picture_text (drawn_scene (S.content subject.now) scene.now messages.now))) }
+    ensures drawn_without { IsErrOf result DrawFault.NoEvent → Appends (W.contents writer.old) (W.contents writer.new)
+        (picture_text (drawn_scene (S.content subject.now) scene.now messages.now)) }
+    ensures no_event { IsErrOf result DrawFault.NoEvent → IsMissing (S.content subject.now).events scene.now.explained }
+    ensures event { OnOk result (¬ IsMissing (S.content subject.now).events scene.now.explained) }
+{
+    let caption = caption_for(alloc, subject, scene.frame, scene.explained, list)?;
+    draw_parts(alloc, subject, scene, messages, &caption, writer)?;
+    if lacks(subject, scene.explained) {
+        return Err(DrawFault::NoEvent);
+    }
+    Ok(())
 }
 
 /// Draws an execution, or a part of it, as SVG.
@@ -214,19 +242,19 @@ pub fn draw_with<S: Subject, W: Write>(
     let layout = lay_out(alloc, subject, view, lanes)?;
     let list = marked_chain(alloc, subject, view.explained)?;
     let marks = marks(alloc, &list, layout.frame)?;
+    let rows = Rows::Range {
+        first: layout.frame.first,
+        end: layout.frame.end,
+    };
     let scene = Scene {
         frame: layout.frame,
         lanes: &layout.lanes,
+        rows: &rows,
         explained: view.explained,
         marks: &marks,
         next: first_past(&list, layout.frame),
         columns: &layout.columns,
     };
-    let caption = caption_for(alloc, subject, layout.frame, view.explained, &list)?;
     let messages = failed_messages(alloc, undelivered)?;
-    draw_scene(alloc, subject, &scene, &messages, &caption, writer)?;
-    if lacks(subject, view.explained) {
-        return Err(DrawFault::NoEvent);
-    }
-    Ok(())
+    draw_scene(alloc, subject, &scene, &list, &messages, writer)
 }

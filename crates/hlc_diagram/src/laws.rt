@@ -1,6 +1,6 @@
 //! The laws of pictures. Each is the contract of a function that does nothing.
 
-ghost use Rattle.hlc_diagram.specs.ChainLaws.{ChainArrowsKeepClear, ChainDotsStandOnLanes, ChainLanesAreOfDots, DotsAreTheChain, GapsCountWhatLiesBetween};
+ghost use Rattle.hlc_diagram.specs.ChainLaws.{ChainArrowsKeepClear, ChainDotsStandOnLanes, ChainLanesAreOfDots, ChainTitlesAreOfTheDots, DotsAreTheChain, GapsCountWhatLiesBetween};
 ghost use Rattle.hlc_diagram.specs.CrossLaws.{CrossesAreOfMessages, CrossesKeepClear, EachMessageHasItsCross, NothingElseChanges, OwnCrossesLieApart};
 ghost use Rattle.hlc_diagram.specs.Laws.{ArrowsAreOfDeliveries, ArrowsComeIn, ArrowsKeepClear, ArrowsLeave, BorderArrowsKeepClear, BorderArrowsTurnInRows, DotsAreOfEvents, DotsStandOnLanes, EachDeliveryHasOneArrow, EachEventHasOneDot, EachNodeHasItsLane, LanesAreApart, LanesAreOfDots, MarkedAreTheChain, MessagesComeIn, MessagesLeave, NoTwoDotsInOnePlace, NoneIsMarked, OwnArrowsLieApart, StepsAreThick, StepsGoOn, TimeRunsDown, TitlesAreOfTheDots};
 ghost use Rattle.hlc_diagram.specs.View.{ViewsAreAround};
@@ -81,13 +81,14 @@ pub use hlc_svg::laws::{labels_are_cut_in_the_middle, labels_are_harmless, shape
 
 /// The picture of a chain alone has a dot for each event of the chain, in order, and no others. Between two that aren't next to one
 /// another it has one row, which counts exactly the events that lie there. No arrow comes nearer to a dot than half its width and height. Each dot
-/// stands on the lane of its node, and only nodes of dots have a lane, unless each has one.
+/// stands on the lane of its node, and only nodes of dots have a lane, unless each has one. The title of a dot and the row beside it are those of its event.
 pub fn chain_pictures_have_the_chain()
     ensures dots { DotsAreTheChain }
     ensures gaps { GapsCountWhatLiesBetween }
     ensures clear { ChainArrowsKeepClear }
     ensures lanes { ChainLanesAreOfDots }
     ensures stand { ChainDotsStandOnLanes }
+    ensures titles { ChainTitlesAreOfTheDots }
 {}
 
 /// What is drawn about an event has that event, and as many as were asked for, or all that there are; before it and after it stand as

@@ -13,13 +13,14 @@ use Rattle.hlc_causality.specs.FollowedClockChains.{clock_chain_of}
 use Rattle.hlc_causality.proofs.ClockChains.{clock_chain_of_exists}
 use Rattle.hlc_causality.proofs.ClockForcing.{clock_forcing_is_earlier}
 use Rattle.hlc_causality.proofs.FollowedClockChains.{clock_chain_is_followed}
-use Rattle.hlc_figures.specs.ChainFigure.{RowExists}
 use Rattle.hlc_figures.specs.ChainRows.{IsRising, RisesAfter, StandsBefore, between, gap_rows, next_row, rows_from, rows_of, standing}
 use Rattle.hlc_figures.specs.Chosen.{chosen}
 use Rattle.hlc_figures.specs.Content.{Content, clock_events_of}
-use Rattle.hlc_figures.specs.declared.chain_rows.ChainRow.{ChainRow}
-use Rattle.hlc_figures.specs.declared.chain_rows.ChainRow.TheVariants.{Between, Event}
-use Rattle.hlc_figures.specs.declared.chain_rows.Standing.{Standing}
+use Rattle.hlc_figures.specs.Scene.{IsRowOf}
+use Rattle.hlc_figures.specs.declared.scene.Scene.{Scene}
+use Rattle.hlc_figures.specs.declared.rows.Row.{Row}
+use Rattle.hlc_figures.specs.declared.rows.Row.TheVariants.{Between, Chained}
+use Rattle.hlc_figures.specs.declared.standing.Standing.{Standing}
 use Rattle.hlc_figures.proofs.Links.{chosen_exists}
 
 -- each event of a chain is later than the one before it
@@ -84,38 +85,38 @@ chosen_rows_fit c explained =
     first_rows_fit (chosen (clock_events_of c) c.stamps explained) (length c.events) (chosen_rises c explained) (chosen_all_exist c explained)
 
 pub listed_rows_fit :
-    (c : Content) (explained : Option EventId) (list : List EventId) (rows : List ChainRow) →
+    (c : Content) (explained : Option EventId) (list : List EventId) (rows : List Row) →
     places_of list ≡ chosen (clock_events_of c) c.stamps explained → rows ≡ rows_of (places_of list) → length rows ≤ length c.events
 listed_rows_fit c explained list rows is are =
-    subst (λ (rows : List ChainRow). length rows ≤ length c.events) (sym (are ∙ ap rows_of is)) (chosen_rows_fit c explained)
+    subst (λ (rows : List Row). length rows ≤ length c.events) (sym (are ∙ ap rows_of is)) (chosen_rows_fit c explained)
 
 -- and the events of the rows exist
-gap_exists : (c : Content) (before : Option Standing) (e : ℕ) → All (RowExists c) (gap_rows before e)
-gap_exists c None e = All-nil (RowExists c)
-gap_exists c (Some d) e =
+gap_exists : (c : Content) (s : Scene) (before : Option Standing) (e : ℕ) → All (IsRowOf c s) (gap_rows before e)
+gap_exists c s None e = All-nil (IsRowOf c s)
+gap_exists c s (Some d) e =
     elim (cases_Bool (nat_lt 0 (between d.event.0 e))) [
-      | inl some ↦ rw some (All-cons (RowExists c) (Between (record { count = between d.event.0 e; row = d.row + 1 })) [] tt (All-nil (RowExists c)))
-      | inr none ↦ rw none (All-nil (RowExists c))
+      | inl some ↦ rw some (All-cons (IsRowOf c s) (Between (record { count = between d.event.0 e; row = d.row + 1 })) [] tt (All-nil (IsRowOf c s)))
+      | inr none ↦ rw none (All-nil (IsRowOf c s))
     ]
 
 rows_exist :
-    (c : Content) (before : Option Standing) (chain : List ℕ) → IfSome before (λ d. d.event.0 < length c.events) →
-    All (λ e. e < length c.events) chain → All (RowExists c) (rows_from before chain)
-rows_exist c before [] there all = All-nil (RowExists c)
-rows_exist c before (e ∷ chain) there all =
+    (c : Content) (s : Scene) (before : Option Standing) (chain : List ℕ) → IfSome before (λ d. d.event.0 < length c.events) →
+    All (λ e. e < length c.events) chain → All (IsRowOf c s) (rows_from before chain)
+rows_exist c s before [] there all = All-nil (IsRowOf c s)
+rows_exist c s before (e ∷ chain) there all =
     let exists : e < length c.events = All-head (λ (e : ℕ). e < length c.events) e chain all in
     let at = standing before e in
-    let rest = rows_exist c (Some (standing before e)) chain exists (All-tail (λ (e : ℕ). e < length c.events) e chain all) in
-    All-append (RowExists c) (gap_rows before e) (Event (record { at = standing before e; before = before }) ∷ rows_from (Some (standing before e)) chain)
-    (gap_exists c before e)
-    (All-cons (RowExists c) (Event (record { at = standing before e; before = before })) (rows_from (Some (standing before e)) chain) (exists, there) rest)
+    let rest = rows_exist c s (Some (standing before e)) chain exists (All-tail (λ (e : ℕ). e < length c.events) e chain all) in
+    All-append (IsRowOf c s) (gap_rows before e) (Chained (record { at = standing before e; before = before }) ∷ rows_from (Some (standing before e)) chain)
+    (gap_exists c s before e)
+    (All-cons (IsRowOf c s) (Chained (record { at = standing before e; before = before })) (rows_from (Some (standing before e)) chain) (exists, there) rest)
 
 pub listed_rows_exist :
-    (c : Content) (explained : Option EventId) (list : List EventId) (rows : List ChainRow) →
-    places_of list ≡ chosen (clock_events_of c) c.stamps explained → rows ≡ rows_of (places_of list) → All (RowExists c) rows
-listed_rows_exist c explained list rows is are =
-    subst (λ (rows : List ChainRow). All (RowExists c) rows) (sym (are ∙ ap rows_of is))
-    (rows_exist c None (chosen (clock_events_of c) c.stamps explained) tt (chosen_all_exist c explained))
+    (c : Content) (s : Scene) (explained : Option EventId) (list : List EventId) (rows : List Row) →
+    places_of list ≡ chosen (clock_events_of c) c.stamps explained → rows ≡ rows_of (places_of list) → All (IsRowOf c s) rows
+listed_rows_exist c s explained list rows is are =
+    subst (λ (rows : List Row). All (IsRowOf c s) rows) (sym (are ∙ ap rows_of is))
+    (rows_exist c s None (chosen (clock_events_of c) c.stamps explained) tt (chosen_all_exist c explained))
 
 -- what is left of a chain rises, after the event that came last, which stands in no later row than there were events
 abbrev pub RisesFrom : Option Standing → List ℕ → Type 0
@@ -141,11 +142,11 @@ listed_from list i d lt =
 
 -- the rows of an event go before those of the rest
 rows_go_on :
-    (before : Option Standing) (e : ℕ) (chain : List ℕ) (rows : List ChainRow) →
-    ((rows ++ gap_rows before e) ++ Event (record { at = standing before e; before = before }) ∷ []) ++ rows_from (Some (standing before e)) chain
+    (before : Option Standing) (e : ℕ) (chain : List ℕ) (rows : List Row) →
+    ((rows ++ gap_rows before e) ++ Chained (record { at = standing before e; before = before }) ∷ []) ++ rows_from (Some (standing before e)) chain
     ≡ rows ++ rows_from before (e ∷ chain)
 rows_go_on before e chain rows =
-    let stop : ChainRow = Event (record { at = standing before e; before = before }) in
+    let stop : Row = Chained (record { at = standing before e; before = before }) in
     append_assoc (rows ++ gap_rows before e) (stop ∷ []) (rows_from (Some (standing before e)) chain)
     ∙ append_assoc rows (gap_rows before e) (stop ∷ rows_from (Some (standing before e)) chain)
 
@@ -165,15 +166,15 @@ module _ (before : Option Standing) (list : List EventId) (i : ℕ) (d : EventId
       subst (λ (s : Standing). RisesFrom (Some s) (places_of (drop (i + 1) list))) (sym is)
       (rises_on before (standing before (get_or list i d).0) (places_of (drop (i + 1) list)) (from_here rises) stands)
 
-  pub next_rows : (at : Standing) (rows grown new all : List ChainRow) → at ≡ standing before (get_or list i d).0 →
-      grown ≡ rows ++ gap_rows before (get_or list i d).0 → new ≡ grown ++ Event (record { at = at; before = before }) ∷ [] →
+  pub next_rows : (at : Standing) (rows grown new all : List Row) → at ≡ standing before (get_or list i d).0 →
+      grown ≡ rows ++ gap_rows before (get_or list i d).0 → new ≡ grown ++ Chained (record { at = at; before = before }) ∷ [] →
       rows ++ rows_from before (places_of (drop i list)) ≡ all →
       new ++ rows_from (Some at) (places_of (drop (i + 1) list)) ≡ all
   next_rows at rows grown new all is gap added whole =
       let e : ℕ = (get_or list i d).0 in
       let chain = places_of (drop (i + 1) list) in
       let here = ap (λ (xs : List ℕ). rows ++ rows_from before xs) (listed_from list i d lt) in
-      let stop = λ (s : Standing) (g : List ChainRow). (g ++ Event (record { at = s; before = before }) ∷ []) ++ rows_from (Some s) chain in
-      ap (λ (r : List ChainRow). r ++ rows_from (Some at) chain) added ∙ ap (λ (s : Standing). stop s grown) is
-      ∙ ap (λ (g : List ChainRow). stop (standing before (get_or list i d).0) g) gap
+      let stop = λ (s : Standing) (g : List Row). (g ++ Chained (record { at = s; before = before }) ∷ []) ++ rows_from (Some s) chain in
+      ap (λ (r : List Row). r ++ rows_from (Some at) chain) added ∙ ap (λ (s : Standing). stop s grown) is
+      ∙ ap (λ (g : List Row). stop (standing before (get_or list i d).0) g) gap
       ∙ rows_go_on before (get_or list i d).0 chain rows ∙ sym here ∙ whole

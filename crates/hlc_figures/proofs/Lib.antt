@@ -1,6 +1,7 @@
 pub mod BegunColumns
 pub mod Cells
 pub mod Chains
+pub mod EventRows
 pub mod NodeLanes
 pub mod Links
 pub mod NumberedDots

@@ -1,8 +1,7 @@
 -- Lists that are made place by place.
-use Rattle.std.proofs.Common.{◌≡◌, ◌≢◌, ◌∙◌, ◌⊎◌, ℕ, zero, suc, ◌+◌, ◌<◌, ◌≤◌, Bool, inl, inr, List, [], ◌∷◌, ◌++◌, Contains, Option, Some, None, arith, ap, append-nil, filter, map, refl, subst, sym}
+use Rattle.std.proofs.Common.{◌≡◌, ◌≢◌, ◌∙◌, ◌⊎◌, ℕ, zero, suc, ◌+◌, ◌<◌, ◌≤◌, Bool, inl, inr, List, [], ◌∷◌, ◌++◌, Contains, Option, Some, None, arith, ap, append-nil, filter, refl, subst, sym}
 use Rattle.std.proofs.lemmas.Bool.{cases_eq}
 use Rattle.std.specs.List.{filter_map}
-use Rattle.std.proofs.lemmas.List.{map_push}
 use Rattle.std.proofs.lemmas.List.Elements.{Contains-append_cases, Contains-append_left, Contains-append_right, filter-append, filter_map-append}
 use Rattle.hlc_figures.specs.Columns.{places_from}
 
@@ -33,16 +32,15 @@ module _ {X Y : Type 0} (part : X → Option Y) where
         | inr later ↦ (let made = parts_of xs y later in (made.0, Contains-append_right (x ∷ []) xs made.0 made.1, made.2))
       ]
 
--- a part of each of some figures, if they have it, and of one more
-pub parts_more :
-    {X Y : Type 0} (part : Y → Option X) (figure : ℕ → Y) (places : List ℕ) (p : ℕ) →
-    filter_map part (map figure (places ++ p ∷ [])) ≡ filter_map part (map figure places) ++ filter_map part (figure p ∷ [])
-parts_more part figure places p =
-    ap (filter_map part) (map_push figure places p) ∙ filter_map-append part (map figure places) (figure p ∷ [])
-
 -- each place adds its items to those of the places before
 abbrev pub AddsItems : {X : Type 0} → (List ℕ → List X) → (ℕ → List X) → Type 0
 AddsItems made item = (places : List ℕ) (p : ℕ) → made (places ++ p ∷ []) ≡ made places ++ item p
+
+-- a part of each of some things, if they have it, and of one more
+pub parts_more :
+    {X Y : Type 0} (part : Y → Option X) (made : List ℕ → List Y) (one : ℕ → Y) → AddsItems made (λ p. one p ∷ []) →
+    AddsItems (λ places. filter_map part (made places)) (λ p. filter_map part (one p ∷ []))
+parts_more part made one more places p = ap (filter_map part) (more places p) ∙ filter_map-append part (made places) (one p ∷ [])
 
 module _ {X : Type 0} (made : List ℕ → List X) (item : ℕ → List X) (none : made [] ≡ []) (more : AddsItems made item) where
   -- what is among them is made of one of the places

@@ -1,5 +1,5 @@
 -- What is drawn of an event.
-use Rattle.std.specs.Prelude.{Bool, ℕ, ◌+◌, ◌-◌, ◌*◌, ◌/◌, ◌==◌, ◌&&◌, List, Option, Some, None, find, if◌then◌else◌, nat_le, nat_lt}
+use Rattle.std.specs.Prelude.{Bool, ℕ, ◌+◌, ◌*◌, ◌/◌, ◌==◌, ◌&&◌, List, Option, Some, None, find, if◌then◌else◌, nat_le, nat_lt}
 use Rattle.std.specs.Option.{option_and_then, option_or}
 use Rattle.hlc_stamp.specs.declared.id.EventId.{EventId}
 use Rattle.hlc_causality.specs.Causality.{skeleton_at}
@@ -9,10 +9,11 @@ use Rattle.hlc_causality.specs.Neighbours.{deliveries_of}
 use Rattle.hlc_figures.specs.Chosen.{is_marked, next_marked}
 use Rattle.hlc_figures.specs.Content.{Content, clock_events_of, node_at}
 use Rattle.hlc_figures.specs.Lanes.{lane_at}
-use Rattle.hlc_svg.specs.Frame.{aside, point_of, row_of, x_of, y_of}
+use Rattle.hlc_figures.specs.Standing.{arrow_along, band_at, dot_at, stand_in}
+use Rattle.hlc_svg.specs.Frame.{aside, x_of, y_of}
 use Rattle.hlc_svg.specs.Shapes.{reach_of}
 use Rattle.hlc_svg.specs.declared.frame.Frame.{Frame}
-use Rattle.hlc_svg.specs.declared.frame.TheConstants.{ROW, TOP}
+use Rattle.hlc_svg.specs.declared.frame.TheConstants.{TOP}
 use Rattle.hlc_svg.specs.declared.arrow.Arrow.{Arrow}
 use Rattle.hlc_svg.specs.declared.shapes.Band.{Band}
 use Rattle.hlc_svg.specs.declared.dot.Dot.{Dot}
@@ -35,7 +36,7 @@ next_of c explained frame = next_marked (clock_events_of c) c.stamps explained f
 
 -- a marked event has a band behind its row
 abbrev pub band_of : Content → Option EventId → Frame → ℕ → Option Band
-band_of c explained frame e = if marked_at c explained e then Some (record { y = y_of frame e - ROW / 2; width = frame.width }) else None
+band_of c explained frame e = if marked_at c explained e then Some (band_at frame (stand_in frame e)) else None
 
 -- where a link from an event begins: at its dot, or at the upper border if the event comes before the range
 abbrev pub link_top : Frame → ℕ → ℕ
@@ -63,22 +64,10 @@ stub_of c explained frame lanes e = option_and_then (stub_to c frame lanes e) (n
 abbrev pub is_step : Content → Option EventId → (d e : ℕ) → Bool
 is_step c explained d e = marked_at c explained e && is_event (forcing_at c e) d
 
--- an arrow runs from the dot of a send to that of a delivery, or to the ring around that; it is marked if the chain goes along it
+-- the arrow from a send to a delivery is marked if the chain goes along it
 abbrev pub arrow_between : Content → Option EventId → Frame → (lanes : List ℕ) → (sent delivered : ℕ) → Arrow
-arrow_between c explained frame lanes sent delivered = record {
-  sent = record { 0 = sent };
-  delivered = record { 0 = delivered };
-  route = record {
-    from_row = row_of frame sent;
-    to_row = row_of frame delivered;
-    below = 0;
-    from = record { 0 = lane_at c lanes sent };
-    to = record { 0 = lane_at c lanes delivered };
-    reach = reach_of (c.look delivered) frame.half;
-    frame = frame;
-  };
-  is_marked = is_step c explained sent delivered;
-}
+arrow_between c explained frame lanes sent delivered =
+    arrow_along c frame lanes (stand_in frame sent) (stand_in frame delivered) (is_step c explained sent delivered)
 
 -- a delivery has an arrow from its send, if that is drawn
 abbrev pub arrow_into : Content → Option EventId → Frame → (lanes : List ℕ) → ℕ → (send : Option ℕ) → Option Arrow
@@ -163,12 +152,4 @@ leaving_of c explained frame lanes e = leaving_to c explained frame lanes e (del
 
 -- the dot of an event
 abbrev pub dot_of : Content → Option EventId → Frame → (lanes : List ℕ) → ℕ → Dot
-dot_of c explained frame lanes e = record {
-  event = record { 0 = e };
-  number = c.number e;
-  shown = c.shown e;
-  at = point_of frame (lane_at c lanes e) e;
-  half = frame.half;
-  look = c.look e;
-  is_marked = marked_at c explained e;
-}
+dot_of c explained frame lanes e = dot_at c frame lanes (stand_in frame e) (marked_at c explained e)

@@ -4,8 +4,8 @@ use Rattle.hlc_stamp.specs.declared.id.EventId.{EventId}
 use Rattle.hlc_figures.specs.Content.{Content}
 use Rattle.hlc_figures.specs.Figure.{arrow_of, band_of, dot_of, entering_of, leaving_of, link_of, stub_of}
 use Rattle.hlc_figures.specs.Lanes.{lane_of}
-use Rattle.hlc_svg.specs.Frame.{x_of}
-use Rattle.hlc_figures.specs.Row.{Cell, row_cells, row_text}
+use Rattle.hlc_svg.specs.Frame.{x_of, y_of}
+use Rattle.hlc_figures.specs.Row.{Cell, row_at, row_text}
 use Rattle.hlc_svg.specs.Shapes.{arrow_text, band_text, dot_text, end_text, lane_text, link_text, if_drawn, numbers_text}
 use Rattle.hlc_figures.specs.Title.{title_text}
 use Rattle.hlc_svg.specs.declared.arrow.Arrow.{Arrow}
@@ -40,7 +40,7 @@ abbrev pub figure_of : Content → Option EventId → Frame → (lanes : List �
 figure_of c explained frame lanes e = record {
   dot = dot_of c explained frame lanes e;
   title = title_text c e;
-  row = row_cells c frame e;
+  row = row_at c frame (y_of frame e) e;
   band = band_of c explained frame e;
   link = link_of c explained frame lanes e;
   stub = stub_of c explained frame lanes e;
@@ -67,10 +67,10 @@ lines_text f =
 unfoldable pub front_text : Figure → List ℕ
 front_text f = numbers_text f.entering f.leaving ++ (dot_text f.dot f.title ++ row_text f.row)
 
-abbrev pub layer_text : Layer → Figure → List ℕ
-layer_text Back = back_text
-layer_text Lines = lines_text
-layer_text Front = front_text
+abbrev pub figure_text : Layer → Figure → List ℕ
+figure_text Back = back_text
+figure_text Lines = lines_text
+figure_text Front = front_text
 
 abbrev pub named_lane_text : NamedLane → List ℕ
 named_lane_text s = lane_text s.lane s.whole_name s.name

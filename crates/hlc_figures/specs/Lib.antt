@@ -3,12 +3,15 @@ pub mod ChainRows
 pub mod Chosen
 pub mod Columns
 pub mod Content
+pub mod DrawnRow
 pub mod Figure
 pub mod FigureText
 pub mod Head
 pub mod Lanes
 pub mod Row
+pub mod Rows
 pub mod Scene
+pub mod Standing
 pub mod Title
 pub use Rattle.hlc_svg.specs.Clear
 pub use Rattle.hlc_svg.specs.CutLabel

@@ -4,7 +4,6 @@ use Rattle.std.specs.List.{flat_map}
 use Rattle.hlc_causality.specs.Places.{places_below}
 use Rattle.hlc_figures.specs.Columns.{column_x}
 use Rattle.hlc_figures.specs.Content.{Content}
-use Rattle.hlc_svg.specs.Frame.{y_of}
 use Rattle.hlc_svg.specs.declared.frame.Frame.{Frame}
 
 -- a text beside the lanes, and where it begins
@@ -20,10 +19,6 @@ cell_at c frame y e column = record { x = column_x c frame column; y = y; text =
 -- the row of an event at a height: a cell in each column
 abbrev pub row_at : Content → Frame → (y e : ℕ) → List Cell
 row_at c frame y e = map (cell_at c frame y e) (places_below c.columns)
-
--- and the one beside the dot of an event
-abbrev pub row_cells : Content → Frame → ℕ → List Cell
-row_cells c frame e = row_at c frame (y_of frame e) e
 
 -- how a cell begins
 abbrev pub begin_text : (x y : ℕ) → List ℕ

@@ -1,19 +1,23 @@
-// What is drawn of the events of a chain.
+// What is drawn of a chain, and its text.
 
-ghost use Rattle.std.specs.Prelude.{◌≡◌, ◌++◌, ◌<◌, OnOk, length, string_bytes};
-ghost use Rattle.hlc_figures.specs.ChainFigure.{StopExists, band_in, counted_in, counted_text, dot_in, events_word, stop_arrow, stop_link};
+ghost use Rattle.std.specs.Prelude.{◌≡◌, ◌++◌, OnOk, string_bytes};
+ghost use Rattle.hlc_figures.specs.ChainFigure.{StopExists, counted_in, counted_text, events_word, gap_text, stop_arrow, stop_figure, stop_link};
+ghost use Rattle.hlc_figures.specs.Columns.{AreColumnsOf};
+ghost use Rattle.hlc_figures.specs.FigureText.{figure_text};
 
-use crate::chain_rows::{Gap, Standing, Stop};
+use crate::figure_text::put_dot;
 use crate::kept::{delivers, node};
 use crate::lanes::lane;
+use crate::layer::Layer;
+use crate::row::put_row;
+use crate::rows::{Gap, Stop};
 use crate::scene::Scene;
+use crate::standing::{arrow_along, band_at, dot_at};
 use crate::subject::Subject;
-use hlc_stamp::EventId;
 use hlc_svg::arrow::Arrow;
-use hlc_svg::dot::{Dot, reach};
-use hlc_svg::frame::{Frame, LaneId, ROW, row_y, x};
-use hlc_svg::route::Route;
-use hlc_svg::shapes::{Band, Link, Point};
+use hlc_svg::frame::{Frame, LaneId, row_y, x};
+use hlc_svg::pieces::{put_arrow, put_band, put_link};
+use hlc_svg::shapes::Link;
 use std::alloc::AllocError;
 
 // How many events lie between two of the chain, and where that stands.
@@ -24,37 +28,8 @@ struct Counted {
     count: u32,
 }
 
-/// The dot of an event in a row.
-pub fn stop_dot<S: Subject>(subject: &S, scene: &Scene<'_>, at: Standing) -> Dot
-    requires { at.event.0 < length (S.content subject.now).events }
-    ensures { result ≡ dot_in (S.content subject.now) scene.now.frame scene.now.lanes.now at }
-{
-    Dot {
-        event: at.event,
-        number: subject.number(at.event),
-        shown: subject.shown(at.event),
-        at: Point {
-            x: u64::from(x(scene.frame, lane(subject, scene.lanes, at.event))),
-            y: row_y(at.row),
-        },
-        half: scene.frame.half,
-        look: subject.look(at.event),
-        is_marked: true,
-    }
-}
-
-/// What is behind that row.
-pub fn stop_band(frame: Frame, at: Standing) -> Band
-    ensures { result ≡ band_in frame at }
-{
-    Band {
-        y: row_y(at.row).saturating_sub(ROW / 2),
-        width: frame.width,
-    }
-}
-
-/// The step to an event along its lane.
-pub fn stop_link<S: Subject>(subject: &S, scene: &Scene<'_>, stop: Stop) -> Option<Link>
+// The step to an event along its lane.
+fn stop_link<S: Subject>(subject: &S, scene: &Scene<'_>, stop: Stop) -> Option<Link>
     requires { StopExists (S.content subject.now) stop }
     ensures { result ≡ stop_link (S.content subject.now) scene.now.frame scene.now.lanes.now stop }
 {
@@ -69,8 +44,8 @@ pub fn stop_link<S: Subject>(subject: &S, scene: &Scene<'_>, stop: Stop) -> Opti
     })
 }
 
-/// The step to an event by a message.
-pub fn stop_arrow<S: Subject>(subject: &S, scene: &Scene<'_>, stop: Stop) -> Option<Arrow>
+// The step to an event by a message.
+fn stop_arrow<S: Subject>(subject: &S, scene: &Scene<'_>, stop: Stop) -> Option<Arrow>
     requires { StopExists (S.content subject.now) stop }
     ensures { result ≡ stop_arrow (S.content subject.now) scene.now.frame scene.now.lanes.now stop }
 {
@@ -78,20 +53,7 @@ pub fn stop_arrow<S: Subject>(subject: &S, scene: &Scene<'_>, stop: Stop) -> Opt
     if !delivers(subject, at.event, before.event) {
         return None;
     }
-    Some(Arrow {
-        sent: before.event,
-        delivered: at.event,
-        route: Route {
-            from_row: before.row,
-            to_row: at.row,
-            below: 0,
-            from: lane(subject, scene.lanes, before.event),
-            to: lane(subject, scene.lanes, at.event),
-            reach: reach(subject.look(at.event), scene.frame.half),
-            frame: scene.frame,
-        },
-        is_marked: true,
-    })
+    Some(arrow_along(subject, scene, before, at, true))
 }
 
 // The word for so many events.
@@ -101,8 +63,8 @@ fn events_word(count: u32) -> &'static str
     if count == 1 { "event" } else { "events" }
 }
 
-// How many events lie between two of the chain, in words.
-fn put_words(text: &mut String, counted: Counted) -> Result<(), AllocError>
+// Adds how many events lie between two of the chain.
+fn put_counted(text: &mut String, counted: Counted) -> Result<(), AllocError>
     ensures { OnOk result (string_bytes text.new ≡ string_bytes text.old ++ counted_text counted) }
 {
     let (x, y, count) = (counted.x, counted.y, counted.count);
@@ -124,9 +86,43 @@ fn count_in(frame: Frame, gap: Gap) -> Counted
     }
 }
 
-/// Adds how many events lie between two of the chain.
-pub fn put_counted(text: &mut String, frame: Frame, gap: Gap) -> Result<(), AllocError>
-    ensures { OnOk result (string_bytes text.new ≡ string_bytes text.old ++ counted_text (counted_in frame gap)) }
+/// What a layer has of an event of the chain: the band behind its row, what leads to it, or its dot and its row.
+pub(crate) fn put_stop<S: Subject>(
+    text: &mut String,
+    layer: Layer,
+    subject: &S,
+    scene: &Scene<'_>,
+    stop: Stop,
+) -> Result<(), AllocError>
+    requires columns { AreColumnsOf (S.content subject.now) scene.now.frame scene.now.columns.now }
+    requires exists { StopExists (S.content subject.now) stop }
+    ensures { OnOk result (string_bytes text.new ≡ string_bytes text.old
+        ++ figure_text layer (stop_figure (S.content subject.now) scene.now.frame scene.now.lanes.now stop)) }
 {
-    put_words(text, count_in(frame, gap))
+    match layer {
+        Layer::Back => put_band(text, Some(band_at(scene.frame, stop.at))),
+        Layer::Lines => {
+            put_link(text, stop_link(subject, scene, stop))?;
+            put_arrow(text, stop_arrow(subject, scene, stop))
+        }
+        Layer::Front => {
+            put_dot(text, subject, dot_at(subject, scene, stop.at, true))?;
+            put_row(text, subject, scene, stop.at.event, row_y(stop.at.row))
+        }
+    }
+}
+
+/// What a layer has of how many events lie between two of the chain.
+pub(crate) fn put_gap(
+    text: &mut String,
+    layer: Layer,
+    frame: Frame,
+    gap: Gap,
+) -> Result<(), AllocError>
+    ensures { OnOk result (string_bytes text.new ≡ string_bytes text.old ++ gap_text layer (counted_in frame gap)) }
+{
+    match layer {
+        Layer::Back | Layer::Lines => Ok(()),
+        Layer::Front => put_counted(text, count_in(frame, gap)),
+    }
 }

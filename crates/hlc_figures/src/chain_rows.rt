@@ -4,36 +4,10 @@ ghost use Rattle.std.specs.Prelude.{◌≡◌, ◌++◌, ◌≤◌, [], IfOk, On
 ghost use Rattle.hlc_stamp.specs.Ids.{places_of};
 ghost use Rattle.hlc_figures.specs.ChainRows.{IsRising, StandsBefore, between, gap_rows, next_row, rows_of, standing};
 
+use crate::rows::{Gap, Row, Stop};
+use crate::standing::Standing;
 use hlc_stamp::EventId;
 use std::alloc::{AllocError, Global};
-
-/// An event of a chain, and the row in which it stands.
-#[derive(Clone, Copy)]
-pub struct Standing {
-    pub event: EventId,
-    pub row: u32,
-}
-
-/// An event of a chain, and the one before it there.
-#[derive(Clone, Copy)]
-pub struct Stop {
-    pub at: Standing,
-    pub before: Option<Standing>,
-}
-
-/// How many events lie between two of a chain that follow one another there.
-#[derive(Clone, Copy)]
-pub struct Gap {
-    pub count: u32,
-    pub row: u32,
-}
-
-/// A row of the picture of a chain.
-#[derive(Clone, Copy)]
-pub enum ChainRow {
-    Event(Stop),
-    Between(Gap),
-}
 
 // How many events lie between two.
 fn between(before: EventId, event: EventId) -> u32
@@ -69,11 +43,7 @@ fn stand_after(before: Option<Standing>, event: EventId) -> Standing
 }
 
 // The row that counts what lies between an event of a chain and the next one, if anything does.
-fn put_gap(
-    rows: &mut Vec<ChainRow>,
-    before: Option<Standing>,
-    event: EventId,
-) -> Result<(), AllocError>
+fn put_gap(rows: &mut Vec<Row>, before: Option<Standing>, event: EventId) -> Result<(), AllocError>
     requires { StandsBefore before event.0 }
     ensures { OnOk result (rows.new.items ≡ rows.old.items ++ gap_rows before event.0) }
 {
@@ -83,13 +53,13 @@ fn put_gap(
     let count = between(before.event, event);
     if 0 < count {
         let row = before.row + 1;
-        rows.push(ChainRow::Between(Gap { count, row }))?;
+        rows.push(Row::Between(Gap { count, row }))?;
     }
     Ok(())
 }
 
 // Puts the rows of a chain.
-fn put_rows(rows: &mut Vec<ChainRow>, chain: &[EventId]) -> Result<(), AllocError>
+fn put_rows(rows: &mut Vec<Row>, chain: &[EventId]) -> Result<(), AllocError>
     requires rising { IsRising (places_of chain.now) }
     requires none { rows.old.items ≡ [] }
     ensures { OnOk result (rows.new.items ≡ rows_of (places_of chain.now)) }
@@ -98,14 +68,14 @@ fn put_rows(rows: &mut Vec<ChainRow>, chain: &[EventId]) -> Result<(), AllocErro
     for event in chain {
         put_gap(rows, before, *event)?;
         let at = stand_after(before, *event);
-        rows.push(ChainRow::Event(Stop { at, before }))?;
+        rows.push(Row::Chained(Stop { at, before }))?;
         before = Some(at);
     }
     Ok(())
 }
 
 /// The rows of a chain: its events in order, and between two that aren't next to one another one that counts what lies there.
-pub fn chain_rows(alloc: Global, chain: &[EventId]) -> Result<Vec<ChainRow>, AllocError>
+pub fn chain_rows(alloc: Global, chain: &[EventId]) -> Result<Vec<Row>, AllocError>
     requires { IsRising (places_of chain.now) }
     ensures { IfOk result (λ rows. rows.items ≡ rows_of (places_of chain.now)) }
 {

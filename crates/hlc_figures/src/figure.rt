@@ -4,33 +4,30 @@ ghost use Rattle.std.specs.Prelude.{◌≡◌, ◌<◌, IfSome, length};
 ghost use Rattle.hlc_causality.specs.FollowedChains.{is_event};
 ghost use Rattle.hlc_causality.specs.Neighbours.{place_of};
 ghost use Rattle.hlc_figures.specs.Figure.{arrow_of, band_of, border_of, delivery_after, dot_of, end_at, entering_of, is_left, is_step, leaving_of, link_of, link_top, next_of, number_distance, side_distance, step_after, stub_of, turn_distance};
-ghost use Rattle.hlc_figures.specs.Scene.{IsDrawn, IsScene};
+ghost use Rattle.hlc_figures.specs.Scene.{IsDrawn, IsMarked};
 
 use crate::kept::{delivers, first_after, forcing, is_forced_by, node, send};
 use crate::lanes::lane;
-use crate::scene::{Scene, is_marked, point};
+use crate::scene::{Scene, is_marked};
+use crate::standing::{arrow_along, band_at, dot_at, stand_in};
 use crate::subject::Subject;
 use hlc_stamp::EventId;
 use hlc_svg::arrow::Arrow;
 use hlc_svg::dot::{Dot, reach};
-use hlc_svg::frame::{Frame, ROW, TOP, aside, row, x, y};
+use hlc_svg::frame::{Frame, TOP, aside, x, y};
 use hlc_svg::look::Look;
-use hlc_svg::route::Route;
 use hlc_svg::shapes::{Band, Border, End, Link};
 
 /// What lies behind the row of an event, if that is marked.
 pub fn band<S: Subject>(subject: &S, scene: &Scene<'_>, event: EventId) -> Option<Band>
-    requires scene { IsScene (S.content subject.now) scene.now }
+    requires scene { IsMarked (S.content subject.now) scene.now }
     requires drawn { IsDrawn scene.now.frame event.0 }
     ensures { result ≡ band_of (S.content subject.now) scene.now.explained scene.now.frame event.0 }
 {
     if !is_marked(subject, scene, event) {
         return None;
     }
-    Some(Band {
-        y: y(scene.frame, event).saturating_sub(ROW / 2),
-        width: scene.frame.width,
-    })
+    Some(band_at(scene.frame, stand_in(scene.frame, event)))
 }
 
 // Where a link from an event begins: at its dot, or at the upper border if the event comes before the range.
@@ -46,7 +43,7 @@ fn link_top(frame: Frame, before: EventId) -> u64
 
 /// The step of the marked chain that leads to an event along its lane.
 pub fn link<S: Subject>(subject: &S, scene: &Scene<'_>, event: EventId) -> Option<Link>
-    requires scene { IsScene (S.content subject.now) scene.now }
+    requires scene { IsMarked (S.content subject.now) scene.now }
     requires drawn { IsDrawn scene.now.frame event.0 }
     ensures { result ≡ link_of (S.content subject.now) scene.now.explained scene.now.frame scene.now.lanes.now event.0 }
 {
@@ -66,7 +63,7 @@ pub fn link<S: Subject>(subject: &S, scene: &Scene<'_>, event: EventId) -> Optio
 
 // The event with which the marked chain goes on after the range.
 fn next<S: Subject>(subject: &S, scene: &Scene<'_>) -> Option<EventId>
-    requires { IsScene (S.content subject.now) scene.now }
+    requires { IsMarked (S.content subject.now) scene.now }
     ensures next { place_of result ≡ next_of (S.content subject.now) scene.now.explained scene.now.frame }
     ensures exists { IfSome result (λ next. next.0 < length (S.content subject.now).events) }
 {
@@ -76,7 +73,7 @@ fn next<S: Subject>(subject: &S, scene: &Scene<'_>) -> Option<EventId>
 
 /// The step of the marked chain that leads from an event along its lane over the lower border.
 pub fn stub<S: Subject>(subject: &S, scene: &Scene<'_>, event: EventId) -> Option<Link>
-    requires scene { IsScene (S.content subject.now) scene.now }
+    requires scene { IsMarked (S.content subject.now) scene.now }
     requires drawn { IsDrawn scene.now.frame event.0 }
     ensures { result ≡ stub_of (S.content subject.now) scene.now.explained scene.now.frame scene.now.lanes.now event.0 }
 {
@@ -94,7 +91,7 @@ pub fn stub<S: Subject>(subject: &S, scene: &Scene<'_>, event: EventId) -> Optio
 
 // Whether the marked chain goes from a send to its delivery.
 fn is_step<S: Subject>(subject: &S, scene: &Scene<'_>, sent: EventId, event: EventId) -> bool
-    requires scene { IsScene (S.content subject.now) scene.now }
+    requires scene { IsMarked (S.content subject.now) scene.now }
     requires drawn { IsDrawn scene.now.frame event.0 }
     ensures { result ≡ is_step (S.content subject.now) scene.now.explained sent.0 event.0 }
 {
@@ -103,7 +100,7 @@ fn is_step<S: Subject>(subject: &S, scene: &Scene<'_>, sent: EventId, event: Eve
 
 /// The arrow to a delivery from its send, if that is drawn too.
 pub fn arrow<S: Subject>(subject: &S, scene: &Scene<'_>, event: EventId) -> Option<Arrow>
-    requires scene { IsScene (S.content subject.now) scene.now }
+    requires scene { IsMarked (S.content subject.now) scene.now }
     requires drawn { IsDrawn scene.now.frame event.0 }
     ensures { result ≡ arrow_of (S.content subject.now) scene.now.explained scene.now.frame scene.now.lanes.now event.0 }
 {
@@ -111,20 +108,9 @@ pub fn arrow<S: Subject>(subject: &S, scene: &Scene<'_>, event: EventId) -> Opti
     if sent.0 < scene.frame.first {
         return None;
     }
-    Some(Arrow {
-        sent,
-        delivered: event,
-        route: Route {
-            from_row: row(scene.frame, sent),
-            to_row: row(scene.frame, event),
-            below: 0,
-            from: lane(subject, scene.lanes, sent),
-            to: lane(subject, scene.lanes, event),
-            reach: reach(subject.look(event), scene.frame.half),
-            frame: scene.frame,
-        },
-        is_marked: is_step(subject, scene, sent, event),
-    })
+    let (from, to) = (stand_in(scene.frame, sent), stand_in(scene.frame, event));
+    let is_marked = is_step(subject, scene, sent, event);
+    Some(arrow_along(subject, scene, from, to, is_marked))
 }
 
 // Where a border is.
@@ -214,7 +200,7 @@ fn end<S: Subject>(
 
 /// The arrow into the range to a delivery, if its send comes before that.
 pub fn entering<S: Subject>(subject: &S, scene: &Scene<'_>, event: EventId) -> Option<End>
-    requires scene { IsScene (S.content subject.now) scene.now }
+    requires scene { IsMarked (S.content subject.now) scene.now }
     requires drawn { IsDrawn scene.now.frame event.0 }
     ensures { result ≡ entering_of (S.content subject.now) scene.now.explained scene.now.frame scene.now.lanes.now event.0 }
 {
@@ -228,7 +214,7 @@ pub fn entering<S: Subject>(subject: &S, scene: &Scene<'_>, event: EventId) -> O
 
 // Whether the chain goes on with an event after the range.
 fn is_next<S: Subject>(subject: &S, scene: &Scene<'_>, event: EventId) -> bool
-    requires { IsScene (S.content subject.now) scene.now }
+    requires { IsMarked (S.content subject.now) scene.now }
     ensures { result ≡ is_event (next_of (S.content subject.now) scene.now.explained scene.now.frame) event.0 }
 {
     let _of = subject;
@@ -240,7 +226,7 @@ fn is_next<S: Subject>(subject: &S, scene: &Scene<'_>, event: EventId) -> bool
 
 // The delivery of a send with which the chain goes on after the range, if it goes on from there by a message.
 fn step_after<S: Subject>(subject: &S, scene: &Scene<'_>, event: EventId) -> Option<EventId>
-    requires scene { IsScene (S.content subject.now) scene.now }
+    requires scene { IsMarked (S.content subject.now) scene.now }
     ensures step { place_of result ≡ step_after (S.content subject.now) event.0 (next_of (S.content subject.now) scene.now.explained scene.now.frame) }
     ensures exists { IfSome result (λ next. next.0 < length (S.content subject.now).events) }
 {
@@ -254,7 +240,7 @@ fn step_after<S: Subject>(subject: &S, scene: &Scene<'_>, event: EventId) -> Opt
 
 // The delivery to which an arrow over the lower border leads: that one, or else the first after the range.
 fn delivery_after<S: Subject>(subject: &S, scene: &Scene<'_>, event: EventId) -> Option<EventId>
-    requires scene { IsScene (S.content subject.now) scene.now }
+    requires scene { IsMarked (S.content subject.now) scene.now }
     requires event { event.0 < length (S.content subject.now).events }
     ensures delivery { place_of result ≡ delivery_after (S.content subject.now) scene.now.explained scene.now.frame event.0 }
     ensures exists { IfSome result (λ delivery. delivery.0 < length (S.content subject.now).events) }
@@ -267,7 +253,7 @@ fn delivery_after<S: Subject>(subject: &S, scene: &Scene<'_>, event: EventId) ->
 
 /// The arrow out of the range from a send, if a delivery comes after that: to the one with which the chain goes on, or to the first.
 pub fn leaving<S: Subject>(subject: &S, scene: &Scene<'_>, event: EventId) -> Option<End>
-    requires scene { IsScene (S.content subject.now) scene.now }
+    requires scene { IsMarked (S.content subject.now) scene.now }
     requires drawn { IsDrawn scene.now.frame event.0 }
     ensures { result ≡ leaving_of (S.content subject.now) scene.now.explained scene.now.frame scene.now.lanes.now event.0 }
 {
@@ -278,17 +264,10 @@ pub fn leaving<S: Subject>(subject: &S, scene: &Scene<'_>, event: EventId) -> Op
 
 /// The dot of an event.
 pub fn dot<S: Subject>(subject: &S, scene: &Scene<'_>, event: EventId) -> Dot
-    requires scene { IsScene (S.content subject.now) scene.now }
+    requires scene { IsMarked (S.content subject.now) scene.now }
     requires drawn { IsDrawn scene.now.frame event.0 }
     ensures { result ≡ dot_of (S.content subject.now) scene.now.explained scene.now.frame scene.now.lanes.now event.0 }
 {
-    Dot {
-        event,
-        number: subject.number(event),
-        shown: subject.shown(event),
-        at: point(scene.frame, lane(subject, scene.lanes, event), event),
-        half: scene.frame.half,
-        look: subject.look(event),
-        is_marked: is_marked(subject, scene, event),
-    }
+    let is_marked = is_marked(subject, scene, event);
+    dot_at(subject, scene, stand_in(scene.frame, event), is_marked)
 }

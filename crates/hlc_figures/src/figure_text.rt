@@ -1,9 +1,10 @@
 // The text of what is drawn of an event.
 
 ghost use Rattle.std.specs.Prelude.{◌≡◌, ◌++◌, ◌<◌, OnOk, length, string_bytes};
-ghost use Rattle.hlc_figures.specs.FigureText.{back_text, figure_of, front_text, lane_below, layer_text, lines_text, named_lane_of, named_lane_text};
+ghost use Rattle.hlc_figures.specs.Columns.{AreColumnsOf};
+ghost use Rattle.hlc_figures.specs.FigureText.{figure_of, figure_text, front_text, lane_below, lines_text, named_lane_of, named_lane_text};
 ghost use Rattle.hlc_svg.specs.Shapes.{dot_text};
-ghost use Rattle.hlc_figures.specs.Scene.{IsDrawn, IsScene};
+ghost use Rattle.hlc_figures.specs.Scene.{IsDrawn, IsMarked};
 ghost use Rattle.hlc_figures.specs.Title.{title_text};
 
 use crate::figure::{arrow, band, dot, entering, leaving, link, stub};
@@ -31,21 +32,6 @@ pub fn put_dot<S: Subject>(text: &mut String, subject: &S, dot: Dot) -> Result<(
     put_title(text, subject, dot.event)?;
     put_ring(text, dot)?;
     put_dot_end(text, dot)
-}
-
-// What lies behind the lanes in the row of an event.
-fn put_back<S: Subject>(
-    text: &mut String,
-    subject: &S,
-    scene: &Scene<'_>,
-    event: EventId,
-) -> Result<(), AllocError>
-    requires scene { IsScene (S.content subject.now) scene.now }
-    requires drawn { IsDrawn scene.now.frame event.0 }
-    ensures { OnOk result (string_bytes text.new ≡ string_bytes text.old
-        ++ back_text (figure_of (S.content subject.now) scene.now.explained scene.now.frame scene.now.lanes.now event.0)) }
-{
-    put_band(text, band(subject, scene, event))
 }
 
 // The lane of a node.
@@ -86,7 +72,7 @@ fn put_lines<S: Subject>(
     scene: &Scene<'_>,
     event: EventId,
 ) -> Result<(), AllocError>
-    requires scene { IsScene (S.content subject.now) scene.now }
+    requires scene { IsMarked (S.content subject.now) scene.now }
     requires drawn { IsDrawn scene.now.frame event.0 }
     ensures { OnOk result (string_bytes text.new ≡ string_bytes text.old
         ++ lines_text (figure_of (S.content subject.now) scene.now.explained scene.now.frame scene.now.lanes.now event.0)) }
@@ -105,7 +91,8 @@ fn put_front<S: Subject>(
     scene: &Scene<'_>,
     event: EventId,
 ) -> Result<(), AllocError>
-    requires scene { IsScene (S.content subject.now) scene.now }
+    requires columns { AreColumnsOf (S.content subject.now) scene.now.frame scene.now.columns.now }
+    requires scene { IsMarked (S.content subject.now) scene.now }
     requires drawn { IsDrawn scene.now.frame event.0 }
     ensures { OnOk result (string_bytes text.new ≡ string_bytes text.old
         ++ front_text (figure_of (S.content subject.now) scene.now.explained scene.now.frame scene.now.lanes.now event.0)) }
@@ -119,21 +106,22 @@ fn put_front<S: Subject>(
     put_row(text, subject, scene, event, y(scene.frame, event))
 }
 
-/// What a layer has of an event.
-pub fn put_layer<S: Subject>(
+/// What a layer has of an event: the band behind its row, what leads to it, or its dot and its row.
+pub(crate) fn put_figure<S: Subject>(
     text: &mut String,
     layer: Layer,
     subject: &S,
     scene: &Scene<'_>,
     event: EventId,
 ) -> Result<(), AllocError>
-    requires scene { IsScene (S.content subject.now) scene.now }
+    requires columns { AreColumnsOf (S.content subject.now) scene.now.frame scene.now.columns.now }
+    requires scene { IsMarked (S.content subject.now) scene.now }
     requires drawn { IsDrawn scene.now.frame event.0 }
     ensures { OnOk result (string_bytes text.new ≡ string_bytes text.old
-        ++ layer_text layer (figure_of (S.content subject.now) scene.now.explained scene.now.frame scene.now.lanes.now event.0)) }
+        ++ figure_text layer (figure_of (S.content subject.now) scene.now.explained scene.now.frame scene.now.lanes.now event.0)) }
 {
     match layer {
-        Layer::Back => put_back(text, subject, scene, event),
+        Layer::Back => put_band(text, band(subject, scene, event)),
         Layer::Lines => put_lines(text, subject, scene, event),
         Layer::Front => put_front(text, subject, scene, event),
     }

@@ -1,20 +1,20 @@
 ghost use Rattle.std.specs.Prelude.{◌≡◌};
 ghost use Rattle.hlc_figures.specs.Chosen.{is_marked};
 ghost use Rattle.hlc_figures.specs.Figure.{marked_at};
-ghost use Rattle.hlc_svg.specs.Frame.{point_of};
-ghost use Rattle.hlc_figures.specs.Scene.{IsDrawn, IsScene};
+ghost use Rattle.hlc_figures.specs.Scene.{IsDrawn, IsMarked};
 
 use crate::lanes::Lanes;
+use crate::rows::Rows;
 use crate::subject::Subject;
 use hlc_stamp::EventId;
-use hlc_svg::frame::{Frame, LaneId, x, y};
-use hlc_svg::shapes::Point;
+use hlc_svg::frame::Frame;
 
 /// What of a subject is drawn, and where.
 #[derive(Clone, Copy)]
 pub struct Scene<'a> {
     pub frame: Frame,
     pub lanes: &'a Lanes,
+    pub rows: &'a Rows,
     /// The event whose chain is marked.
     pub explained: Option<EventId>,
     /// For each event that is drawn, whether it is marked.
@@ -27,20 +27,10 @@ pub struct Scene<'a> {
 
 /// Whether an event is marked.
 pub(crate) fn is_marked<S: Subject>(subject: &S, scene: &Scene<'_>, event: EventId) -> bool
-    requires scene { IsScene (S.content subject.now) scene.now }
+    requires scene { IsMarked (S.content subject.now) scene.now }
     requires drawn { IsDrawn scene.now.frame event.0 }
     ensures { result ≡ marked_at (S.content subject.now) scene.now.explained event.0 }
 {
     let _of = subject;
     scene.marks[(event.0 - scene.frame.first) as usize]
-}
-
-/// The middle of the dot of an event on this lane.
-pub(crate) fn point(frame: Frame, lane: LaneId, event: EventId) -> Point
-    ensures { result ≡ point_of frame lane.0 event.0 }
-{
-    Point {
-        x: u64::from(x(frame, lane)),
-        y: y(frame, event),
-    }
 }

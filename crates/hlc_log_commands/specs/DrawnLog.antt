@@ -4,7 +4,6 @@ use Rattle.std.specs.Io.KnownBytes.{Appends}
 use Rattle.hlc_stamp.specs.declared.limits.TheConstants.{MAX_CAPACITY}
 use Rattle.hlc_stamp.specs.declared.id.EventId.{EventId}
 use Rattle.hlc_csv.specs.declared.records_fault.RecordsFault.TheVariants as records
-use Rattle.hlc_diagram.specs.ChainPicture.{chain_picture_text}
 use Rattle.hlc_diagram.specs.Picture.{picture_text}
 use Rattle.hlc_diagram.specs.declared.view.View.{View}
 use Rattle.hlc_open_log.specs.Opened.{IsOpened, OpenedLog}
@@ -41,7 +40,7 @@ abbrev pub HasPicture : DrawnLog → DrawnPart ℕ → (before after : Option (L
 HasPicture drawn (Rows rows explained) before after =
     (view : View) × IsViewOf drawn rows explained view × Appends before after (picture_text (drawn_log drawn view))
 HasPicture drawn (Chain line) before after =
-    (row : EventId) × IsRowOn drawn line row.0 × Appends before after (chain_picture_text (drawn_log_chain drawn row))
+    (row : EventId) × IsRowOn drawn line row.0 × Appends before after (picture_text (drawn_log_chain drawn row))
 
 -- and the log has the events that are named
 abbrev pub IsPartDrawn : DrawnLog → DrawnPart ℕ → (before after : Option (List ℕ)) → Type 0

@@ -5,7 +5,7 @@ use Rattle.hlc_causes.specs.declared.answers.Finding.{Finding}
 use Rattle.hlc_diagram.specs.Content.{Content}
 use Rattle.hlc_diagram.specs.CutLabel.{cut_text}
 use Rattle.hlc_diagram.specs.Label.{label_text}
-use Rattle.hlc_diagram.specs.ChainPicture.{ChainPicture, chain_picture_of}
+use Rattle.hlc_diagram.specs.ChainPicture.{chain_picture_of}
 use Rattle.hlc_diagram.specs.Picture.{Picture, picture_of}
 use Rattle.hlc_svg.specs.declared.numbers.FirstDigits.{FirstDigits}
 use Rattle.hlc_diagram.specs.declared.view.View.{View}
@@ -94,7 +94,7 @@ abbrev pub drawn_log : DrawnLog → View → Picture
 drawn_log drawn view = picture_of (content_of drawn) view
 
 -- the picture of the chain of the event in a row alone
-abbrev pub drawn_log_chain : DrawnLog → (row : EventId) → ChainPicture
+abbrev pub drawn_log_chain : DrawnLog → (row : EventId) → Picture
 drawn_log_chain drawn row = chain_picture_of (content_of drawn) row
 
 -- an opened log is drawn: its events in a causal order, which is that of their least stamps if receives tick, with its names, its labels, and a finding

@@ -2,7 +2,6 @@
 
 ghost use Rattle.std.specs.Prelude.{IsErrOf, OnOk, Some};
 ghost use Rattle.std.specs.Io.KnownBytes.{Appends};
-ghost use Rattle.hlc_diagram.specs.ChainPicture.{chain_picture_text};
 ghost use Rattle.hlc_diagram.specs.Chosen.{IsMissing};
 ghost use Rattle.hlc_diagram.specs.Picture.{picture_text};
 ghost use Rattle.hlc_log_picture.specs.Drawn.{drawn_log, drawn_log_chain};
@@ -49,11 +48,11 @@ pub fn draw_chain<W: Write>(
 ) -> Result<(), DrawFault>
     // What the writer got is the picture of the chain.
     ensures drawn { OnOk result (Appends (W.contents writer.old) (W.contents writer.new)
-        (chain_picture_text (drawn_log_chain log.now row))) }
+        (picture_text (drawn_log_chain log.now row))) }
 
     // The same holds if there is no such row: the picture says so.
     ensures drawn_without { IsErrOf result DrawFault.NoEvent → Appends (W.contents writer.old) (W.contents writer.new)
-        (chain_picture_text (drawn_log_chain log.now row)) }
+        (picture_text (drawn_log_chain log.now row)) }
     ensures no_event { IsErrOf result DrawFault.NoEvent → IsMissing log.now.log.events (Some row) }
     ensures event { OnOk result (¬ IsMissing log.now.log.events (Some row)) }
 {

@@ -7,7 +7,7 @@ use Rattle.hlc_causality.specs.declared.receives.Receives.TheVariants.{Tick}
 use Rattle.hlc_causality.specs.Chain.{IsChainOf, IsForcing}
 use Rattle.hlc_causality.specs.ClockChain.{IsClockChainOf, IsClockForcing}
 use Rattle.hlc_causality.specs.ReceiveEvents.{plain_rules}
-use Rattle.hlc_diagram.specs.ChainPicture.{ChainPicture, chain_picture_of}
+use Rattle.hlc_diagram.specs.ChainPicture.{chain_picture_of}
 use Rattle.hlc_diagram.specs.Content.{Content, NodesExist, SendsComeFirst, clock_events_of}
 use Rattle.hlc_diagram.specs.Numbers.{digits_of, no_digits, stamp_text, stamp_width}
 use Rattle.hlc_diagram.specs.Picture.{Picture, picture_of, picture_with}
@@ -64,7 +64,7 @@ abbrev pub drawn_with : History → View → List Undelivered → Picture
 drawn_with h view undelivered = picture_with (content_of h) view undelivered
 
 -- the picture of the chain of an event alone
-abbrev pub drawn_chain : History → EventId → ChainPicture
+abbrev pub drawn_chain : History → EventId → Picture
 drawn_chain h e = chain_picture_of (content_of h) e
 
 -- in a history each send comes before its deliveries

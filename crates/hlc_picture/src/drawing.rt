@@ -4,7 +4,6 @@ ghost use Rattle.std.specs.Prelude.{◌≡◌, ◌↔◌, IsErrOf, IsTrue, OnOk,
 ghost use Rattle.std.specs.Io.KnownBytes.{Appends};
 ghost use Rattle.hlc_arena.specs.Arena.{history_of};
 ghost use Rattle.hlc_arena.specs.ClockRule.{HasLeastStamps};
-ghost use Rattle.hlc_diagram.specs.ChainPicture.{chain_picture_text};
 ghost use Rattle.hlc_diagram.specs.Chosen.{IsMissing};
 ghost use Rattle.hlc_diagram.specs.Picture.{picture_text};
 ghost use Rattle.hlc_picture.specs.Drawn.{drawn, drawn_chain, drawn_with};
@@ -96,11 +95,11 @@ pub fn draw_chain<W: Write>(
 
     // What the writer got is the picture of the chain.
     ensures drawn { OnOk result (Appends (W.contents writer.old) (W.contents writer.new)
-        (chain_picture_text (drawn_chain (history_of history.now) event))) }
+        (picture_text (drawn_chain (history_of history.now) event))) }
 
     // The same holds if there is no such event: the picture says so.
     ensures drawn_without { IsErrOf result DrawFault.NoEvent → Appends (W.contents writer.old) (W.contents writer.new)
-        (chain_picture_text (drawn_chain (history_of history.now) event)) }
+        (picture_text (drawn_chain (history_of history.now) event)) }
     ensures no_event { IsErrOf result DrawFault.NoEvent → IsMissing history.now.events (Some event) }
     ensures event { OnOk result (¬ IsMissing history.now.events (Some event)) }
 {

@@ -7,7 +7,6 @@ use Rattle.hlc_stamp.specs.declared.limits.TheConstants.{MAX_RECORDS}
 use Rattle.hlc_stamp.specs.declared.settings.Settings.{Settings}
 use Rattle.hlc_arena.specs.History.{History, stamps_of}
 use Rattle.hlc_arena.specs.ClockRule.{HasLeastStamps}
-use Rattle.hlc_diagram.specs.ChainPicture.{chain_picture_text}
 use Rattle.hlc_diagram.specs.Chosen.{IsMissing}
 use Rattle.hlc_picture.specs.Drawn.{drawn_chain, drawn_with}
 use Rattle.hlc_diagram.specs.Picture.{picture_text}
@@ -72,7 +71,7 @@ LacksNamed history (Chain event) = IsMissing history.events (Some event)
 -- the picture of a part of a history: of some rows, in which these messages are crossed out, or of the chain of an event and of nothing else
 abbrev pub part_text : History → (undelivered : List Undelivered) → DrawnPart EventId → List ℕ
 part_text history undelivered (Rows rows explained) = picture_text (drawn_with history (view_of (length history.events) rows explained) undelivered)
-part_text history undelivered (Chain event) = chain_picture_text (drawn_chain history event)
+part_text history undelivered (Chain event) = picture_text (drawn_chain history event)
 
 -- the input is a script, and the output got the picture of a part of the history that it leaves, with the messages that it leaves undelivered
 pub record IsScriptDrawn (settings : Settings) (part : DrawnPart EventId) (input before after : Option (List ℕ)) : Type 0 where

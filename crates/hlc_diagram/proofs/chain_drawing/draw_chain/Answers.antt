@@ -1,19 +1,20 @@
-use Rattle.std.proofs.Common.{◌≡◌, ◌∙◌, ℕ, ◌<◌, ◌≤◌, All, List, Some, ap, arith, length, subst, sym}
-use Rattle.std.proofs.lemmas.Result.{err_from_is_err_and}
+use Rattle.std.proofs.Common.{◌≡◌, ◌∙◌, ℕ, ◌<◌, ◌≤◌, All, List, [], Some, refl, ap, arith, length, subst, sym}
 use Rattle.std.specs.Io.KnownBytes.{Appends}
+use Rattle.std.specs.Prelude.{IsErrOf, OnOk}
+use Rattle.hlc_diagram.specs.declared.draw_fault.DrawFault.TheVariants.{NoEvent}
 use Rattle.hlc_stamp.specs.Ids.{places_of}
 use Rattle.hlc_stamp.specs.declared.id.EventId.{EventId}
-use Rattle.hlc_diagram.specs.ChainPicture.{chain_picture_in, chain_picture_of, chain_picture_text, frame_around}
+use Rattle.hlc_diagram.specs.ChainPicture.{chain_picture_of, frame_around}
+use Rattle.hlc_diagram.specs.Picture.{picture_in, picture_text}
 use Rattle.hlc_figures.specs.ChainRows.{rows_of}
 use Rattle.hlc_figures.specs.Chosen.{chosen}
 use Rattle.hlc_figures.specs.Columns.{AreColumnsOf}
 use Rattle.hlc_figures.specs.Content.{Content, clock_events_of}
-use Rattle.hlc_figures.specs.declared.chain_rows.ChainRow.{ChainRow}
+use Rattle.hlc_figures.specs.declared.rows.Row.{Row}
 use Rattle.hlc_svg.specs.declared.frame.Frame.{Frame}
 use Rattle.hlc_figures.specs.Lanes.{lanes_of}
 use Rattle.hlc_figures.proofs.NodeLanes.{lanes_exist}
 use Rattle.hlc_figures.proofs.Chains.{chosen_all_exist, listed_rises, listed_rows_exist, listed_rows_fit}
-use Rattle.hlc_diagram.proofs.Faults.{other_fault}
 use Rattle.hlc_diagram.proofs.chain_drawing.draw_chain.Goals as goal
 
 pub chain_rows-requires : goal.chain_rows-requires
@@ -31,7 +32,7 @@ pub lay_out_chain-requires-clause-rows : goal.lay_out_chain-requires-clause-rows
 lay_out_chain-requires-clause-rows g c =
     let lent = c.deref.ensures.value ∙ sym c.deref-2.ensures.value in
     let are = c.deref-3.ensures.value ∙ c.in_ok-rows.ensures ∙ ap (λ (list : List EventId). rows_of (places_of list)) lent in
-    c.count_rows.ensures ∙ ap (λ (rows : List ChainRow). length rows) are
+    c.count_rows.ensures ∙ ap (λ (rows : List Row). length rows) are
 
 pub lay_out_chain-requires-clause-exist : goal.lay_out_chain-requires-clause-exist
 lay_out_chain-requires-clause-exist g c =
@@ -43,105 +44,43 @@ lay_out_chain-requires-clause-exist g c =
 frame_exists : (of : Content) (e : EventId) (chain : List ℕ) (frame : Frame) → frame ≡ frame_around of e chain → frame.end ≤ length of.events
 frame_exists of e chain frame is = subst (λ (f : Frame). f.end ≤ length of.events) (sym is) (omega arith)
 
-pub caption_for-requires-clause-exist : goal.caption_for-requires-clause-exist
-caption_for-requires-clause-exist g c =
-    frame_exists (g.S.Subject.content c.args.subject.now) c.args.event (places_of c.deref-2.result.now) c.in_ok-layout.layout.frame
-    c.in_ok-layout.ensures.frame
-
-pub draw_rows-requires-clause-exist : goal.draw_rows-requires-clause-exist
-draw_rows-requires-clause-exist g c =
-    let listed = ap (λ (list : List EventId). places_of list) c.deref.ensures.value ∙ c.in_ok-list.ensures.chosen in
-    listed_rows_exist (g.S.Subject.content c.args.subject.now) (Some c.args.event) c.deref.result.now c.deref-6.result.now listed
-    (c.deref-6.ensures.value ∙ c.in_ok-rows.ensures)
-
-pub caption_for-requires-clause-list : goal.caption_for-requires-clause-list
-caption_for-requires-clause-list g c = ap (λ (list : List EventId). places_of list) c.deref-5.ensures.value ∙ c.in_ok-list.ensures.chosen
-
-pub draw_rows-requires-clause-columns : goal.draw_rows-requires-clause-columns
-draw_rows-requires-clause-columns g c =
-    let of = g.S.Subject.content c.args.subject.now in
-    let frame = c.in_ok-layout.layout.frame in
-    subst (λ (xs : List ℕ). AreColumnsOf of frame xs) (sym c.deref-4.ensures.value) c.in_ok-layout.ensures.columns
-
-pub draw_rows-requires-clause-lanes : goal.draw_rows-requires-clause-lanes
-draw_rows-requires-clause-lanes g c =
-    let of = g.S.Subject.content c.args.subject.now in
-    subst (λ (lanes : List ℕ). All (λ node. node < of.nodes) lanes) (sym c.in_ok-layout.ensures.lanes)
-    (lanes_exist of (places_of c.deref-2.result.now))
-
 -- rows that are those of the chain, around it, make its picture
 chain_drawn :
-    (of : Content) (e : EventId) (chain : List ℕ) (frame : Frame) (lanes : List ℕ) (rows : List ChainRow) →
+    (of : Content) (e : EventId) (chain : List ℕ) (frame : Frame) (lanes : List ℕ) (rows : List Row) →
     chain ≡ chosen (clock_events_of of) of.stamps (Some e) → frame ≡ frame_around of e chain → lanes ≡ lanes_of of chain → rows ≡ rows_of chain →
-    chain_picture_text (chain_picture_in of frame lanes e rows) ≡ chain_picture_text (chain_picture_of of e)
-chain_drawn of e chain frame lanes rows is around on are =
-    ap (λ (f : Frame). chain_picture_text (chain_picture_in of f lanes e rows)) around
-    ∙ ap (λ (l : List ℕ). chain_picture_text (chain_picture_in of (frame_around of e chain) l e rows)) on
-    ∙ ap (λ (r : List ChainRow). chain_picture_text (chain_picture_in of (frame_around of e chain) (lanes_of of chain) e r)) are
-    ∙ ap (λ (chain : List ℕ). chain_picture_text (chain_picture_in of (frame_around of e chain) (lanes_of of chain) e (rows_of chain))) is
+    picture_text (picture_in of frame lanes (Some e) rows []) ≡ picture_text (chain_picture_of of e)
+chain_drawn of e chain frame lanes rows is around on are = rw (around, on, are, is) refl
 
-pub returns-clause-drawn : goal.returns-clause-drawn
-returns-clause-drawn g c =
+pub draw_scene-requires-clause-scene : goal.draw_scene-requires-clause-scene
+draw_scene-requires-clause-scene g c =
+    let of = g.S.Subject.content c.args.subject.now in
+    let frame = c.in_ok-layout.layout.frame in
+    let listed = ap (λ (list : List EventId). places_of list) c.deref.ensures.value ∙ c.in_ok-list.ensures.chosen in
+    record {
+      rows = listed_rows_exist of _ (Some c.args.event) c.deref.result.now c.in_ok-rows.rows.items listed c.in_ok-rows.ensures;
+      exist = frame_exists of c.args.event (places_of c.deref-2.result.now) frame c.in_ok-layout.ensures.frame;
+      columns = subst (λ (xs : List ℕ). AreColumnsOf of frame xs) (sym c.deref-4.ensures.value) c.in_ok-layout.ensures.columns;
+      lanes = subst (λ (lanes : List ℕ). All (λ node. node < of.nodes) lanes) (sym c.in_ok-layout.ensures.lanes)
+          (lanes_exist of (places_of c.deref-2.result.now));
+    }
+
+pub draw_scene-requires-clause-list : goal.draw_scene-requires-clause-list
+draw_scene-requires-clause-list g c = ap (λ (list : List EventId). places_of list) c.deref-5.ensures.value ∙ c.in_ok-list.ensures.chosen
+
+pub returns : goal.returns
+returns g c =
     let of = g.S.Subject.content c.args.subject.now in
     let w0 = g.W.Write.contents c.args.writer.now in
-    let w1 = g.W.Write.contents c.draw_rows.new.writer in
+    let w1 = g.W.Write.contents c.draw_scene.new.writer in
+    let drawn = c.draw_scene.ensures in
     let listed = c.in_ok-list.ensures.chosen in
     let around = c.in_ok-layout.ensures.frame ∙ ap (λ (list : List EventId). frame_around of c.args.event (places_of list)) c.deref-2.ensures.value in
     let on = c.in_ok-layout.ensures.lanes ∙ ap (λ (list : List EventId). lanes_of of (places_of list)) c.deref-2.ensures.value in
-    let are = c.deref-6.ensures.value ∙ c.in_ok-rows.ensures ∙ ap (λ (list : List EventId). rows_of (places_of list)) c.deref.ensures.value in
-    subst (λ (t : List ℕ). Appends w0 w1 t)
-    (chain_drawn of c.args.event (places_of c.in_ok-list.list.items) c.in_ok-layout.layout.frame _ c.deref-6.result.now listed around on are)
-    c.in_ok-draw_rows.ensures.text
-
-pub returns-then-lacks-clause-drawn_without : goal.returns-then-lacks-clause-drawn_without
-returns-then-lacks-clause-drawn_without g c =
-    let of = g.S.Subject.content c.args.subject.now in
-    let w0 = g.W.Write.contents c.args.writer.now in
-    let w1 = g.W.Write.contents c.draw_rows.new.writer in
-    let listed = c.in_ok-list.ensures.chosen in
-    let around = c.in_ok-layout.ensures.frame ∙ ap (λ (list : List EventId). frame_around of c.args.event (places_of list)) c.deref-2.ensures.value in
-    let on = c.in_ok-layout.ensures.lanes ∙ ap (λ (list : List EventId). lanes_of of (places_of list)) c.deref-2.ensures.value in
-    let are = c.deref-6.ensures.value ∙ c.in_ok-rows.ensures ∙ ap (λ (list : List EventId). rows_of (places_of list)) c.deref.ensures.value in
-    λ no_event. subst (λ (t : List ℕ). Appends w0 w1 t)
-    (chain_drawn of c.args.event (places_of c.in_ok-list.list.items) c.in_ok-layout.layout.frame _ c.deref-6.result.now listed around on are)
-    c.in_ok-draw_rows.ensures.text
-
-pub returns-in_err-list : goal.returns-in_err-list
-returns-in_err-list g c =
-    let from = err_from_is_err_and c.from_residual.result c.from_residual.ensures.1 in
-    rw (from.1, from.2) record {
-      drawn = tt;
-      drawn_without = other_fault _ c.in_err-list.ensures.fault;
-      no_event = other_fault _ c.in_err-list.ensures.fault;
-      event = tt;
-    }
-
-pub returns-in_err-rows : goal.returns-in_err-rows
-returns-in_err-rows g c =
-    let from = err_from_is_err_and c.from_residual-in_err-rows.result c.from_residual-in_err-rows.ensures.1 in
-    rw (from.1, from.2) record {
-      drawn = tt;
-      drawn_without = other_fault _ tt;
-      no_event = other_fault _ tt;
-      event = tt;
-    }
-
-pub returns-in_err-layout : goal.returns-in_err-layout
-returns-in_err-layout g c =
-    let from = err_from_is_err_and c.from_residual-in_err-layout.result c.from_residual-in_err-layout.ensures.1 in
-    rw (from.1, from.2) record {
-      drawn = tt;
-      drawn_without = other_fault _ tt;
-      no_event = other_fault _ tt;
-      event = tt;
-    }
-
-pub returns-in_err-draw_rows : goal.returns-in_err-draw_rows
-returns-in_err-draw_rows g c =
-    let from = err_from_is_err_and c.from_residual-in_err-draw_rows.result c.from_residual-in_err-draw_rows.ensures.1 in
-    rw (from.1, from.2) record {
-      drawn = tt;
-      drawn_without = other_fault _ c.in_err-draw_rows.ensures.fault;
-      no_event = other_fault _ c.in_err-draw_rows.ensures.fault;
-      event = tt;
+    let are = c.in_ok-rows.ensures ∙ ap (λ (list : List EventId). rows_of (places_of list)) c.deref.ensures.value in
+    let text = chain_drawn of c.args.event (places_of c.in_ok-list.list.items) c.in_ok-layout.layout.frame _ c.in_ok-rows.rows.items listed around on are in
+    record {
+      drawn = subst (λ (t : List ℕ). OnOk c.draw_scene.result (Appends w0 w1 t)) text drawn.drawn;
+      drawn_without = subst (λ (t : List ℕ). IsErrOf c.draw_scene.result NoEvent → Appends w0 w1 t) text drawn.drawn_without;
+      no_event = drawn.no_event;
+      event = drawn.event;
     }

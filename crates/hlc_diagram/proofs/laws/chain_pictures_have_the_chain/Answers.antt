@@ -1,4 +1,4 @@
-use Rattle.hlc_diagram.proofs.ChainDrawn.{chain_arrows_keep_clear, chain_dots_stand_on_lanes, chain_lanes_are_of_dots, dots_are_the_chain, gaps_count_what_lies_between}
+use Rattle.hlc_diagram.proofs.ChainDrawn.{chain_arrows_keep_clear, chain_dots_stand_on_lanes, chain_lanes_are_of_dots, chain_titles_are_of_the_dots, dots_are_the_chain, gaps_count_what_lies_between}
 use Rattle.hlc_diagram.proofs.laws.chain_pictures_have_the_chain.Goals as goal
 
 pub returns : goal.returns
@@ -8,4 +8,5 @@ returns c = record {
   clear = chain_arrows_keep_clear;
   lanes = chain_lanes_are_of_dots;
   stand = chain_dots_stand_on_lanes;
+  titles = chain_titles_are_of_the_dots;
 }

@@ -4,7 +4,7 @@ use Rattle.std.proofs.lemmas.Result.{err_from_is_err_and}
 use Rattle.hlc_stamp.specs.Ids.{places_of}
 use Rattle.hlc_stamp.specs.declared.id.EventId.{EventId}
 use Rattle.hlc_figures.specs.ChainRows.{rows_from}
-use Rattle.hlc_figures.specs.declared.chain_rows.ChainRow.{ChainRow}
+use Rattle.hlc_figures.specs.declared.rows.Row.{Row}
 use Rattle.hlc_figures.proofs.Chains.{next_rises, next_rows, next_stands}
 use Rattle.hlc_figures.proofs.chain_rows.put_rows.Goals as goal
 
@@ -14,7 +14,7 @@ no_event = record { 0 = 0 }
 pub loop-event-init : goal.loop-event-init
 loop-event-init c = record {
   rises = c.requires.rising;
-  rows = ap (λ (rows : List ChainRow). rows ++ rows_from None (places_of c.args.chain.now)) c.requires.none;
+  rows = ap (λ (rows : List Row). rows ++ rows_from None (places_of c.args.chain.now)) c.requires.none;
 }
 
 pub put_gap-requires : goal.put_gap-requires

@@ -2,7 +2,8 @@ use Rattle.std.proofs.Common.{◌≡◌, ◌∙◌, ◌++◌, ℕ, Option, ap, s
 use Rattle.std.proofs.lemmas.Result.{err_from_is_err_and, on_ok_weaker}
 use Rattle.hlc_figures.specs.Figure.{dot_of, entering_of, leaving_of}
 use Rattle.hlc_figures.specs.FigureText.{front_text}
-use Rattle.hlc_figures.specs.Row.{row_at, row_cells, row_text}
+use Rattle.hlc_figures.specs.Row.{row_at, row_text}
+use Rattle.hlc_svg.specs.Frame.{y_of}
 use Rattle.hlc_svg.specs.Shapes.{dot_text, numbers_text}
 use Rattle.hlc_figures.specs.Title.{title_text}
 use Rattle.hlc_svg.specs.declared.dot.Dot.{Dot}
@@ -17,7 +18,7 @@ returns g c =
     let of = g.S.Subject.content c.args.subject.now in
     let e = c.args.event.0 in
     let dot = dot_text (dot_of of s.explained s.frame s.lanes.now e) (title_text of e) in
-    let row = row_text (row_cells of s.frame e) in
+    let row = row_text (row_at of s.frame (y_of s.frame e) e) in
     let entering = entering_of of s.explained s.frame s.lanes.now e in
     let leaving = leaving_of of s.explained s.frame s.lanes.now e in
     let old = string_bytes c.args.text.now in
