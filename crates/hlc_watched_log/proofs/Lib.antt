@@ -6,3 +6,4 @@ pub mod NameNumbers
 pub mod Records
 pub mod RowsAdded
 pub mod SoFar
+pub mod Told
