@@ -13,6 +13,7 @@ use crate::file_lines::FileLines;
 use crate::found::found_in;
 use crate::log_names::LogNames;
 use crate::named_event::{message_name, unwatched};
+use crate::node_names::NodeNames;
 use crate::node_tally::{NodeTally, claimed_ahead, one_more};
 use crate::numbers::{MessageNames, name_number, no_messages, number_kind};
 use crate::skews::{ShownSkews, take_skews};
@@ -65,7 +66,7 @@ impl Model for LogWatch {
 
 // Adds the name of a node of this number, if it is new.
 fn add_node(
-    nodes: &mut NameSet,
+    nodes: &mut NodeNames,
     tallies: &mut Vec<NodeTally>,
     name: &[u8],
     number: usize,
@@ -113,12 +114,13 @@ impl LogWatch {
         ensures nothing { IfOk result (λ log. log ≡ no_events rules.keep) }
         ensures whole { IfOk result IsWhole }
     {
+        let nodes = NodeNames::new(alloc, key)?;
         let files = FileLines::new(alloc)?;
         let messages = no_messages(alloc, rules.keep, key)?;
         let watch = Watch::new(alloc, rules.keep)?;
         Ok(LogWatch {
             names: LogNames {
-                nodes: NameSet::new(alloc, key),
+                nodes,
                 files: NameSet::new(alloc, key),
             },
             files,
@@ -203,6 +205,14 @@ impl LogWatch {
         }
     }
 
+    // The number of a node by its name, which a new one takes at the end of all.
+    fn number_node(&mut self, name: &[u8]) -> usize
+        ensures number { result ≡ name_number self.old.names.nodes name.now }
+        ensures same { self.new ≡ self.old }
+    {
+        self.names.nodes.number(name)
+    }
+
     // Adds an event of a node and a message with these names, the number of the node being known.
     fn add(
         &mut self,
@@ -278,7 +288,7 @@ impl LogWatch {
     {
         let node = field(placed, NODE_PLACE);
         let message = message_name(rules.records.form, head.word, placed);
-        let number = name_number(&self.names.nodes, node);
+        let number = self.number_node(node);
         if let Some(why) = unwatched(
             rules.records.form,
             head.word,
