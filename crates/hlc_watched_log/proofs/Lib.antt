@@ -3,6 +3,8 @@ pub mod EventsKept
 pub mod EventsTaken
 pub mod Headers
 pub mod NameNumbers
+pub mod NodeNumbers
 pub mod Records
 pub mod RowsAdded
 pub mod SoFar
+pub mod Told

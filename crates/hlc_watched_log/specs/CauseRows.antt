@@ -62,3 +62,10 @@ breaks_by causes wrong = causes.behind || (is_some causes.not_above_previous || 
 
 abbrev pub is_broken : (full : ℕ) → Records → Bool
 is_broken full records = breaks_by (line_causes full records) (wrong_line records)
+
+-- whether any rule is broken, also one that is about least stamps, so that there is a row of it
+abbrev pub tells_by : LineCauses → (wrong : Option FileLine) → Bool
+tells_by causes wrong = breaks_by causes wrong || is_some causes.ahead
+
+abbrev pub has_cause : (full : ℕ) → Records → Bool
+has_cause full records = tells_by (line_causes full records) (wrong_line records)

@@ -1,5 +1,5 @@
 -- A watched log: what is kept of it, and what each record adds and is answered with.
-use Rattle.std.specs.Prelude.{◌==◌, ◌+◌, ◌%◌, ℕ, Bool, false, List, [], ◌∷◌, ◌++◌, Option, Some, None, Result, Ok, Err, codes, decimal, if◌then◌else◌, length, nat_lt, not, unwrap_or}
+use Rattle.std.specs.Prelude.{◌==◌, ◌+◌, ◌%◌, ℕ, Bool, false, List, [], ◌∷◌, ◌++◌, ◌||◌, Option, Some, None, Result, Ok, Err, codes, decimal, if◌then◌else◌, length, nat_lt, not, unwrap_or}
 use Rattle.std.specs.List.{flat_map, list_any}
 use Rattle.hlc_csv.specs.Rows.{Fields}
 use Rattle.hlc_log.specs.declared.log_event.LogEvent.{LogEvent}
@@ -27,7 +27,7 @@ use Rattle.hlc_watch.specs.Records.{ruled_by}
 use Rattle.hlc_watch.specs.Watching.{KeptLog, after_event, no_log}
 use Rattle.hlc_watch.specs.declared.records.Records.{Records}
 use Rattle.hlc_watch.specs.declared.file_line.FileLine.{FileLine}
-use Rattle.hlc_watched_log.specs.CauseRows.{cause_rows, is_broken, row_if}
+use Rattle.hlc_watched_log.specs.CauseRows.{cause_rows, has_cause, is_broken, row_if}
 use Rattle.hlc_watched_log.specs.Files.{KeptFiles, line_here, marked_at, moved_to, no_files, told_line}
 use Rattle.hlc_watched_log.specs.Numbers.{kind_of, message_number, messages_after, name_number}
 use Rattle.hlc_watched_log.specs.Skews.{ShownSkews, skew_rows, skews_after}
@@ -181,6 +181,10 @@ with_named rules log named = with_event rules log named.head.word named.node (me
 abbrev pub event_rows : WatchRules → LogNames → (complete : List Records) → FileLine → LogEvent → List Fields
 event_rows rules names complete line event =
     flat_map (cause_rows names (greatest_c rules.records.form)) complete ++ row_if (is_over rules.limit (claimed_ahead event)) (over_row names line event)
+
+-- whether there is one: a cause, or that it is over the limit
+abbrev pub is_told : WatchRules → (complete : List Records) → LogEvent → Bool
+is_told rules complete event = list_any (has_cause (greatest_c rules.records.form)) complete || is_over rules.limit (claimed_ahead event)
 
 -- the rows that sum a log up: its nodes, what is counted, and skews
 abbrev pub summary_rows : WatchedLog → List Fields

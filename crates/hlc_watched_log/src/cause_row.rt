@@ -2,7 +2,7 @@
 
 ghost use Rattle.std.specs.Prelude.{◌≡◌, ◌∷◌, [], OnOk, codes, decimal};
 ghost use Rattle.hlc_csv.specs.Rows.{AddsRow, AddsRows};
-ghost use Rattle.hlc_watched_log.specs.CauseRows.{ahead_row, behind_row, breaks_by, cause_rows, is_broken, line_row, row_if, row_of, rows_of, wrong_line};
+ghost use Rattle.hlc_watched_log.specs.CauseRows.{ahead_row, behind_row, breaks_by, cause_rows, line_row, row_if, row_of, rows_of, wrong_line};
 
 use crate::log_names::LogNames;
 use hlc_csv::RowField::{Number, Text};
@@ -14,7 +14,7 @@ use std::alloc::Global;
 use std::io::Write;
 
 // The line of the send of what an event receives, if its message carried another stamp than that claims.
-fn wrong_line(records: &Records) -> Option<FileLine>
+pub(crate) fn wrong_line(records: &Records) -> Option<FileLine>
     ensures { result ≡ wrong_line records.now }
 {
     match (records.event.carried, records.send) {
@@ -30,20 +30,13 @@ fn wrong_line(records: &Records) -> Option<FileLine>
 }
 
 // Whether one of these rules is broken that isn't about least stamps.
-fn breaks_by(causes: LineCauses, wrong: Option<FileLine>) -> bool
+pub(crate) fn breaks_by(causes: LineCauses, wrong: Option<FileLine>) -> bool
     ensures { result ≡ breaks_by causes wrong }
 {
     causes.behind
         || causes.not_above_previous.is_some()
         || causes.not_above_send.is_some()
         || wrong.is_some()
-}
-
-// Whether an event breaks such a rule.
-pub(crate) fn is_broken(full: u32, records: &Records) -> bool
-    ensures { result ≡ is_broken full records.now }
-{
-    breaks_by(records.causes(full), wrong_line(records))
 }
 
 // Adds the row of a stamp that is behind, if it is.

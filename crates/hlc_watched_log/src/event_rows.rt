@@ -9,7 +9,7 @@ ghost use Rattle.hlc_watch.specs.Laws.{if_any};
 ghost use Rattle.hlc_watched_log.specs.CauseRows.{cause_rows, row_if};
 ghost use Rattle.hlc_watched_log.specs.Summary.{claimed_ahead};
 ghost use Rattle.hlc_watched_log.specs.Taken.{complete_in};
-ghost use Rattle.hlc_watched_log.specs.Watched.{bad_row, event_rows, is_over, over_row};
+ghost use Rattle.hlc_watched_log.specs.Watched.{bad_row, event_rows, is_over, is_told, over_row};
 
 use crate::cause_row::push_causes;
 use crate::log_names::LogNames;
@@ -109,7 +109,7 @@ fn push_event<W: Write>(
     push_over(alloc, rows, names, rules.limit, line, event, writer)
 }
 
-// Writes them, and flushes the writer.
+// Writes them, and flushes the writer; if there are none, it is left alone.
 pub(crate) fn write_event<W: Write>(
     alloc: Global,
     names: &LogNames,
@@ -117,11 +117,16 @@ pub(crate) fn write_event<W: Write>(
     complete: &Complete,
     line: FileLine,
     event: &LogEvent,
+    told: bool,
     writer: &mut W,
 ) -> Result<(), OutputFault>
+    requires told { told ≡ is_told rules (complete_in complete.now) event.now }
     ensures { OnOk result (Appends (W.contents writer.old) (W.contents writer.new)
         (text_of (event_rows rules names.now (complete_in complete.now) line event.now))) }
 {
+    if !told {
+        return Ok(());
+    }
     let mut rows = RowBuffer::new(alloc);
     push_event(
         alloc, &mut rows, names, rules, complete, line, event, writer,

@@ -4,6 +4,7 @@ ghost use Rattle.std.specs.Prelude.{◌≡◌, IfOk, option_map};
 ghost use Rattle.hlc_log_text.specs.LogText.{name_of};
 ghost use Rattle.hlc_watched_log.specs.Files.{file_named, told_line};
 
+use crate::node_names::NodeNames;
 use hlc_log_text::{LineText, Location, NameSet};
 use hlc_pages::Bytes;
 use hlc_stamp::NodeId;
@@ -13,7 +14,7 @@ use std::alloc::{AllocError, Global};
 // The names of its nodes, and those of its files, of which the first is file 1.
 #[derive(Drop)]
 pub(crate) struct LogNames {
-    pub(crate) nodes: NameSet,
+    pub(crate) nodes: NodeNames,
     pub(crate) files: NameSet,
 }
 

@@ -46,8 +46,7 @@ fn number_message(
     ensures kept { OnOk result (messages.new ≡ lru_cache (with_message messages.old.cap messages.old.entries name.now own) messages.old.cap) }
 {
     let name = Bytes::from_slice(alloc, name)?;
-    let number = messages.peek(&name).copied().unwrap_or(own);
-    messages.put(name, number)?;
+    let number = *messages.get_or_insert(name, || own)?;
     Ok(MessageId(number))
 }
 

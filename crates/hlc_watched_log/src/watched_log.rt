@@ -2,20 +2,18 @@
 
 ghost use Rattle.std.specs.Prelude.{◌≡◌, ◌<◌, OnOk, length};
 ghost use Rattle.std.specs.Io.KnownBytes.{Appends};
-ghost use Rattle.std.specs.List.{list_any};
 ghost use Rattle.hlc_csv.specs.Rows.{text_of};
 ghost use Rattle.hlc_log.specs.declared.log_event.TheConstants.{MAX_LOG_NODES};
 ghost use Rattle.hlc_log_text.specs.Names.{with_name};
-ghost use Rattle.hlc_watched_log.specs.CauseRows.{is_broken};
 ghost use Rattle.hlc_watched_log.specs.Numbers.{name_number};
 ghost use Rattle.hlc_watched_log.specs.Summary.{with_node};
-ghost use Rattle.hlc_watched_log.specs.Taken.{complete_in};
 
-use crate::cause_row::is_broken;
 use crate::event_rows::{is_over, write_bad, write_event};
 use crate::file_lines::FileLines;
+use crate::found::found_in;
 use crate::log_names::LogNames;
 use crate::named_event::{message_name, unwatched};
+use crate::node_names::NodeNames;
 use crate::node_tally::{NodeTally, claimed_ahead, one_more};
 use crate::numbers::{MessageNames, name_number, no_messages, number_kind};
 use crate::skews::{ShownSkews, take_skews};
@@ -27,7 +25,7 @@ use hlc_csv::{OutputFault, field};
 use hlc_log::LogEvent;
 use hlc_log_text::{BadLog, Extras, NODE_PLACE, NameKey, NameSet, RecordHead, RecordItem};
 use hlc_stamp::NodeId;
-use hlc_watch::{Complete, Records, RuledEvent, Watch};
+use hlc_watch::{Complete, RuledEvent, Watch};
 use std::alloc::{AllocError, Global};
 use std::collections::BTreeMap;
 use std::io::Write;
@@ -68,7 +66,7 @@ impl Model for LogWatch {
 
 // Adds the name of a node of this number, if it is new.
 fn add_node(
-    nodes: &mut NameSet,
+    nodes: &mut NodeNames,
     tallies: &mut Vec<NodeTally>,
     name: &[u8],
     number: usize,
@@ -87,21 +85,14 @@ fn add_node(
     Ok(())
 }
 
-// Whether one of the events that are complete breaks a rule that isn't about least stamps.
-fn is_any_broken(full: u32, complete: &Complete) -> bool
-    ensures { result ≡ list_any (is_broken full) (complete_in complete.now) }
-{
-    match &complete.event {
-        Some(records) => is_broken(full, records) || are_any_broken(full, &complete.waited),
-        None => are_any_broken(full, &complete.waited),
-    }
-}
-
-// Whether one of some events does.
-fn are_any_broken(full: u32, all: &[Records]) -> bool
-    ensures { result ≡ list_any (is_broken full) all.now }
-{
-    all.iter().any(|records| is_broken(full, records))
+// An event that was added, by numbers.
+#[derive(Drop)]
+struct Added {
+    event: LogEvent,
+    // Which events are complete with it.
+    complete: Complete,
+    // Whether there is a row of these or of it.
+    is_told: bool,
 }
 
 impl LogWatch {
@@ -109,10 +100,10 @@ impl LogWatch {
     ghost use Rattle.csv.specs.Records.{fields_of};
     ghost use Rattle.hlc_log.specs.Events.{IsSmallCarried};
     ghost use Rattle.hlc_log_text.specs.LogHeader.{HasSmallCarried, IsSmallTold};
-    ghost use Rattle.hlc_watched_log.specs.Taken.{IsWhole, Takes, TakesEvent, TakesItem};
+    ghost use Rattle.hlc_watched_log.specs.Taken.{IsWhole, Takes, TakesEvent, TakesItem, complete_in};
     ghost use Rattle.hlc_watched_log.specs.Files.{line_here};
     ghost use Rattle.hlc_watched_log.specs.Numbers.{name_number};
-    ghost use Rattle.hlc_watched_log.specs.Watched.{bad_row, complete_as, due_rows, event_by, in_file, no_events, on_line, summary_rows, with_event, without_bad};
+    ghost use Rattle.hlc_watched_log.specs.Watched.{bad_row, complete_as, due_rows, event_by, in_file, is_told, no_events, on_line, summary_rows, with_event, without_bad};
 
     // Nothing came.
     pub(crate) fn new(
@@ -123,12 +114,13 @@ impl LogWatch {
         ensures nothing { IfOk result (λ log. log ≡ no_events rules.keep) }
         ensures whole { IfOk result IsWhole }
     {
+        let nodes = NodeNames::new(alloc, key)?;
         let files = FileLines::new(alloc)?;
         let messages = no_messages(alloc, rules.keep, key)?;
         let watch = Watch::new(alloc, rules.keep)?;
         Ok(LogWatch {
             names: LogNames {
-                nodes: NameSet::new(alloc, key),
+                nodes,
                 files: NameSet::new(alloc, key),
             },
             files,
@@ -213,8 +205,15 @@ impl LogWatch {
         }
     }
 
-    // Adds an event of a node and a message with these names, the number of the node being known. Gives it by numbers, and which events are
-    // complete with it.
+    // The number of a node by its name, which a new one takes at the end of all.
+    fn number_node(&mut self, name: &[u8]) -> usize
+        ensures number { result ≡ name_number self.old.names.nodes name.now }
+        ensures same { self.new ≡ self.old }
+    {
+        self.names.nodes.number(name)
+    }
+
+    // Adds an event of a node and a message with these names, the number of the node being known.
     fn add(
         &mut self,
         rules: WatchRules,
@@ -223,15 +222,16 @@ impl LogWatch {
         node: &[u8],
         number: usize,
         message: &[u8],
-    ) -> Result<(LogEvent, Complete), AllocError>
+    ) -> Result<Added, AllocError>
         requires number { number ≡ name_number self.old.names.nodes node.now }
         requires few { number < MAX_LOG_NODES }
         requires whole { IsWhole self.old }
         requires room { self.old.events < 2 ^ 32 - 1 }
         requires small { IsSmallCarried extras.carried }
-        ensures event { IfOk result (λ told. told.0 ≡ event_by self.old head extras node.now message.now) }
-        ensures complete { IfOk result (λ told. complete_in told.1 ≡ complete_as rules self.old.kept self.old.files.current told.0) }
-        ensures kept { IfOk result (λ told. self.new ≡ with_event rules self.old head.word node.now message.now told.0) }
+        ensures event { IfOk result (λ added. added.event ≡ event_by self.old head extras node.now message.now) }
+        ensures complete { IfOk result (λ added. complete_in added.complete ≡ complete_as rules self.old.kept self.old.files.current added.event) }
+        ensures told { IfOk result (λ added. added.is_told ≡ is_told rules (complete_in added.complete) added.event) }
+        ensures kept { IfOk result (λ added. self.new ≡ with_event rules self.old head.word node.now message.now added.event) }
         ensures whole { OnOk result (IsWhole self.new) }
     {
         let line = self.files.line_here();
@@ -259,10 +259,14 @@ impl LogWatch {
         let ruled = RuledEvent::new(rules.records.receives, line.file, &event);
         let complete = self.watch.event(ruled)?;
         take_skews(&mut self.skews, &complete)?;
-        let broken = is_any_broken(rules.records.form.full(), &complete);
+        let found = found_in(rules.records.form.full(), &complete);
         let over_limit = is_over(rules.limit, claimed_ahead(&event));
-        self.counts = self.counts.with_event(event.kind, broken, over_limit);
-        Ok((event, complete))
+        self.counts = self.counts.with_event(event.kind, found.broken, over_limit);
+        Ok(Added {
+            event,
+            complete,
+            is_told: found.tells(over_limit),
+        })
     }
 
     // Adds an event and tells of it, or tells why it can't be watched. Its names stand in these fields.
@@ -284,7 +288,7 @@ impl LogWatch {
     {
         let node = field(placed, NODE_PLACE);
         let message = message_name(rules.records.form, head.word, placed);
-        let number = name_number(&self.names.nodes, node);
+        let number = self.number_node(node);
         if let Some(why) = unwatched(
             rules.records.form,
             head.word,
@@ -294,15 +298,16 @@ impl LogWatch {
         ) {
             return Ok(Some(why));
         }
-        let (event, complete) = self.add(rules, head, extras, node, number, message)?;
+        let added = self.add(rules, head, extras, node, number, message)?;
         let line = self.files.line_here();
         write_event(
             self.alloc,
             &self.names,
             rules,
-            &complete,
+            &added.complete,
             line,
-            &event,
+            &added.event,
+            added.is_told,
             writer,
         )?;
         self.sum_up_if_due(rules.every, writer)?;

@@ -122,10 +122,7 @@ fn read_told(
     ensures said { IfOk result (ReadsNext (read_rules rules) headers.old.items file (fields_of fields.old) (fields_of placed.new) headers.new.items) }
     ensures small { IfOk result HasSmallCarried }
 {
-    let mut header = headers[file];
-    let told = header.read(alloc, read_rules(rules), fields, placed)?;
-    headers[file] = header;
-    Ok(told)
+    headers[file].read(alloc, read_rules(rules), fields, placed)
 }
 
 // Takes the next record, on a line, and answers it: it marks a file, or is the next of its file. If it is bad and isn't left out, that ends the watch.
@@ -199,7 +196,7 @@ fn watch_records<R: Read + Drop, W: Write>(
 
 /// Watches a log: answers each of its records as it comes, and sums the log up in the end.
 ///
-/// After each record that is answered the writer is flushed; so what there is to say is said as soon as the reader has given the last byte of the
+/// After each record of which there is something to say, that is written and the writer is flushed: as soon as the reader has given the last byte of the
 /// record. It takes constant time for each record, and memory for each node, for each message that is remembered and for each receive that waits. A log has
 /// as many records as lines are counted, and more are a fault.
 pub fn watch_log<R: Read + Drop, W: Write>(

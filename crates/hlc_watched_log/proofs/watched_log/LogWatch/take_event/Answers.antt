@@ -5,7 +5,7 @@ use Rattle.hlc_log_text.specs.declared.bad_log.BadLog.{BadLog}
 use Rattle.hlc_watched_log.specs.Files.{line_here}
 use Rattle.hlc_watched_log.specs.Numbers.{name_number}
 use Rattle.hlc_watched_log.specs.Taken.{TakesOr}
-use Rattle.hlc_watched_log.specs.Watched.{WatchedLog, event_by, unwatched, unwatched_by, with_event}
+use Rattle.hlc_watched_log.specs.Watched.{WatchedLog, complete_as, event_by, unwatched, unwatched_by, with_event}
 use Rattle.hlc_watched_log.proofs.EventsTaken.{event_taken, message, node}
 use Rattle.hlc_watched_log.proofs.watched_log.LogWatch.take_event.Goals as goal
 
@@ -19,14 +19,15 @@ returns-clause-taken g c named is =
     let at = g.W.Write.contents in
     let node_is = c.field-node.ensures in
     let message_is = c.message_name-message.ensures in
-    let number : c.name_number-number.result ≡ name_number old.names.nodes c.field-node.result.now =
-    c.name_number-number.ensures ∙ ap (λ (l : WatchedLog). name_number l.names.nodes c.field-node.result.now) c.self.view_is in
+    let number = c.number_node-number.ensures.number in
+    let same = c.number_node-number.ensures.same in
     let good : None ≡ unwatched_by rules.records.form head.word head.has_stamp (message rules old head extras placed is.0 is.1) (name_number old.names.nodes (node rules old head extras placed is.0 is.1)) =
     sym c.in_default.is ∙ c.unwatched.ensures
     ∙ (λ i. unwatched_by rules.records.form head.word head.has_stamp (message_is i) ((number ∙ ap (name_number old.names.nodes) node_is) i)) in
-    let event = c.in_ok-event.ensures.event ∙ (λ i. event_by old head extras (node_is i) (message_is i)) in
-    let kept = c.in_ok-event.ensures.kept ∙ (λ i. with_event rules old head.word (node_is i) (message_is i) c.in_ok-event.event) in
+    let event = c.in_ok-added.ensures.event ∙ (λ i. event_by (same i) head extras (node_is i) (message_is i)) in
+    let complete = c.in_ok-added.ensures.complete ∙ ap (λ (l : WatchedLog). complete_as rules l.kept l.files.current c.in_ok-added.added.event) same in
+    let kept = c.in_ok-added.ensures.kept ∙ (λ i. with_event rules (same i) head.word (node_is i) (message_is i) c.in_ok-added.added.event) in
     subst (λ (n : NamedEvent). (let o : Option BadLog = None in o ≡ unwatched rules.records.form old.names.nodes n) × TakesOr rules old (Option.Some n) (at c.args.writer.now) (at c.sum_up_if_due.new.writer) c.add.new.self None)
     (sym is.2)
-    (event_taken rules old head extras placed is.0 is.1 c.in_ok-event.event _ c.add.new.self c.self-2.inside.names c.line_here-line.result (at c.args.writer.now) (at c.write_event.new.writer)
-    (at c.sum_up_if_due.new.writer) good event c.in_ok-event.ensures.complete kept (ap (λ (l : WatchedLog). l.names) c.self-2.view_is) (c.line_here-line.ensures ∙ ap (λ (l : WatchedLog). line_here l.files) c.self-2.view_is) c.in_ok-write_event.ensures c.in_ok-sum_up_if_due.ensures)
+    (event_taken rules old head extras placed is.0 is.1 c.in_ok-added.added.event _ c.add.new.self c.self.inside.names c.line_here-line.result (at c.args.writer.now) (at c.write_event.new.writer)
+    (at c.sum_up_if_due.new.writer) good event complete kept (ap (λ (l : WatchedLog). l.names) c.self.view_is) (c.line_here-line.ensures ∙ ap (λ (l : WatchedLog). line_here l.files) c.self.view_is) c.in_ok-write_event.ensures c.in_ok-sum_up_if_due.ensures)
