@@ -3,6 +3,7 @@ pub mod LogFacts
 pub mod NameFacts
 pub mod NamedLogs
 pub mod NamedNodes
+pub mod NumberedNames
 pub mod PlainLogs
 pub mod QuestionTexts
 pub mod ReadFacts

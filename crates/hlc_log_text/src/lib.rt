@@ -59,7 +59,7 @@
 //!   uhlc's and whose readings are in milliseconds. A reading is then taken as so many whole units of `l`, and one at least.
 //! - `LogHeader` reads a log's records one by one, each by itself (`RecordItem`), with what has to be kept of those before it: whether the next may be
 //!   a header, and the columns. A `RecordHead` is what a record says of its event but for names, `Extras` what only a header's columns tell; the names
-//!   stand at `NODE_PLACE` and `message_place`. A `NameSet` gives names their numbers as they come.
+//!   stand at `NODE_PLACE` and `message_place`. A `NameSet` gives names their numbers as they come, and `NodeNames` those of nodes.
 //! - `StampForm` says how stamps are written: a hybrid logical clock's stamp has two parts, `l` and `c`, and logs show them in two fields,
 //!   as one with a dot (CockroachDB: `1700000000123456789.0000000001`), or packed into one number of 64 bits, with `c` in the low ones
 //!   (uhlc, YugabyteDB and TiDB: 4, 12 and 18 of them). `field_count` says how many fields that takes, and `full` is the
@@ -161,7 +161,7 @@ pub use log_word::LogWord;
 pub use name_key::NameKey;
 pub use name_set::NameSet;
 pub use names::Names;
-pub use node_names::node_name;
+pub use node_names::{NodeNames, node_name};
 pub use question::{LogQuestion, location_of};
 pub use question_text::question_of;
 pub use read::read_log;

@@ -1,4 +1,4 @@
-ghost use Rattle.std.specs.Prelude.{◌≡◌, ◌≤◌, [], IfOk, IfSome, IsOk, IsTrue, OnErr, OnOk, Some, is_some, length, option_map, position, slice_get};
+ghost use Rattle.std.specs.Prelude.{◌≡◌, ◌↔◌, ◌≤◌, [], IfOk, IfSome, IsOk, IsTrue, OnErr, OnOk, Some, is_some, length, option_map, position, slice_get};
 ghost use Rattle.std.specs.List.{list_any};
 ghost use Rattle.std.specs.Str.{bytes_eq};
 ghost use Rattle.hlc_log_text.specs.Names.{EachNameOnce, with_name};
@@ -55,6 +55,16 @@ impl NameSet {
     {
         let name = self.names.get_index(number)?;
         Some(name)
+    }
+
+    // Whether this is the number of a name: to see that takes one comparison, where to look for the name takes its hash.
+    pub(crate) fn has_number(&self, name: &[u8], number: usize) -> bool
+        ensures { IsTrue result ↔ (position (bytes_eq name.now) self.now ≡ Some number) }
+    {
+        let Some(known) = self.names.get_index(number) else {
+            return false;
+        };
+        **known == *name
     }
 
     /// How many names there are.

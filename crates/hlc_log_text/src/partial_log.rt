@@ -22,7 +22,6 @@ use crate::fault::LogTextFault;
 use crate::fault_rule::FaultRule;
 use crate::file_mark::file_name;
 use crate::files::Files;
-use crate::hints::Hints;
 use crate::labels::Labels;
 use crate::log_details::LogDetails;
 use crate::log_rules::LogRules;
@@ -32,6 +31,7 @@ use crate::missing::missing_by;
 use crate::name_key::NameKey;
 use crate::name_set::NameSet;
 use crate::names::Names;
+use crate::node_names::NodeNames;
 use crate::question::LogQuestion;
 use crate::record_head::{Beside, NODE_PLACE, RecordHead, label, message_place, parse_whole};
 use crate::record_syntax::RecordSyntax;
@@ -49,7 +49,7 @@ use std::mem;
 #[derive(Drop)]
 pub(crate) struct PartialLog {
     log: Log,
-    nodes: NameSet,
+    nodes: NodeNames,
     messages: NameSet,
     labels: Labels,
     // The names of the nodes that receives tell in place of their messages.
@@ -61,7 +61,6 @@ pub(crate) struct PartialLog {
     at_start: bool,
     // Those that the header of the log names, or that of its last file, if there is one.
     columns: Option<Columns>,
-    hints: Hints,
     skipped: Option<Skipped>,
     left_out: Vec<BadLine>,
     // Which messages were sent, if records that send one of these are bad.
@@ -97,44 +96,14 @@ pub(crate) fn begun_file(fields: &ByteRecord) -> Option<&[u8]>
     }
 }
 
-// Whether a node has this name.
-fn is_named(nodes: &NameSet, node: NodeId, name: &[u8]) -> bool
-    ensures { result ≡ true → slice_get nodes.now node.0 ≡ Some name.now }
-{
-    match nodes.name(usize::from(node.0)) {
-        Some(known) => known == name,
-        None => false,
-    }
-}
-
-// The number of a node, unless it would be one too many. The name that it may have by the hints is compared first.
-fn number_node(
-    nodes: &mut NameSet,
-    hints: &mut Hints,
-    name: &[u8],
-) -> Result<Option<NodeId>, AllocError>
-    requires { length nodes.old ≤ MAX_LOG_NODES }
-    ensures { IfOk result (NumbersNode nodes.old nodes.new name.now) }
-{
-    let hint = hints.node(name);
-    if is_named(nodes, hint, name) {
-        return Ok(Some(hint));
-    }
-    let found = look_up_node(nodes, name)?;
-    if let Some(node) = found {
-        hints.keep(name, node);
-    }
-    Ok(found)
-}
-
-// The same, by a look-up.
-fn look_up_node(nodes: &mut NameSet, name: &[u8]) -> Result<Option<NodeId>, AllocError>
+// The number of a node, unless it would be one too many.
+fn number_node(nodes: &mut NodeNames, name: &[u8]) -> Result<Option<NodeId>, AllocError>
     requires { length nodes.old ≤ MAX_LOG_NODES }
     ensures { IfOk result (NumbersNode nodes.old nodes.new name.now) }
 {
     let number = match nodes.number(name) {
         Some(number) => number,
-        None if nodes.len() == MAX_LOG_NODES as usize => return Ok(None),
+        None if nodes.names().len() == MAX_LOG_NODES as usize => return Ok(None),
         None => nodes.mention(name)?,
     };
     Ok(Some(NodeId(number as u16)))
@@ -203,7 +172,7 @@ impl PartialLog {
     {
         PartialLog {
             log: Log::new(alloc),
-            nodes: NameSet::new(alloc, key),
+            nodes: NodeNames::new(alloc, key),
             messages: NameSet::new(alloc, key),
             labels: Labels::new(alloc),
             senders: Labels::new(alloc),
@@ -212,7 +181,6 @@ impl PartialLog {
             files: Files::new(alloc),
             at_start: true,
             columns: None,
-            hints: Hints::new(),
             skipped: None,
             left_out: Vec::new(alloc),
             sent: SentMarks::new(alloc, rules.leaves_sent()),
@@ -530,7 +498,7 @@ impl PartialLog {
             (option_map (λ label. label.now) names.entry.label))) line self.new) }
         ensures marks { KeepMarks self.old self.new }
     {
-        let Some(node) = number_node(&mut self.nodes, &mut self.hints, names.node)? else {
+        let Some(node) = number_node(&mut self.nodes, names.node)? else {
             return Ok(false);
         };
         let kind = number_message(&mut self.messages, head.word, names.message)?;
@@ -577,7 +545,7 @@ impl PartialLog {
             return Ok(());
         };
         let alloc = *self.questions.allocator();
-        let senders = nodes_named(alloc, &self.nodes, &self.senders, self.log.len())?;
+        let senders = nodes_named(alloc, self.nodes.names(), &self.senders, self.log.len())?;
         let (unnamed, messages) = (MessageId(unnamed as u32), self.messages.len() as u32);
         tell_apart(alloc, &mut self.log, unnamed, messages, &senders)
     }
@@ -602,7 +570,7 @@ impl PartialLog {
     {
         self.tell_apart()?;
         let alloc = *self.questions.allocator();
-        let nodes = mem::replace(&mut self.nodes, NameSet::new(alloc, NameKey::fixed()));
+        let nodes = mem::replace(&mut self.nodes, NodeNames::new(alloc, NameKey::fixed()));
         Ok(nodes.into_names())
     }
 

@@ -17,7 +17,6 @@ returns-clause-asked c items lines h =
       questions = c.push.new.self;
       line = c.args.line;
       columns = old.columns;
-      hints = old.hints;
       skipped = old.skipped;
       left_out = old.left_out;
       sent = old.sent;

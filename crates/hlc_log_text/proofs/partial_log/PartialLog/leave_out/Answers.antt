@@ -17,7 +17,6 @@ returns-clause-left c items lines h next =
       questions = old.questions;
       line = b.line;
       columns = old.columns;
-      hints = old.hints;
       skipped = old.skipped;
       left_out = c.push.new.self;
       sent = old.sent;
