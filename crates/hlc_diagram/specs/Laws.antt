@@ -10,7 +10,7 @@ use Rattle.hlc_diagram.specs.Layout.{lanes_in}
 use Rattle.hlc_figures.specs.Content.{Content, NodesExist, SendsComeFirst, clock_events_of, node_at}
 use Rattle.hlc_figures.specs.Figure.{side_distance, turn_distance}
 use Rattle.hlc_figures.specs.Lanes.{lane_at}
-use Rattle.hlc_svg.specs.Frame.{x_of}
+use Rattle.hlc_svg.specs.Frame.{x_of, y_of}
 use Rattle.hlc_svg.specs.Shapes.{reach_of}
 use Rattle.hlc_svg.specs.Path.{arrow_end, arrow_start, course_of, path_of}
 use Rattle.hlc_figures.specs.FigureText.{Figure, NamedLane}
@@ -51,10 +51,11 @@ pub record IsInRange (c : Content) (view : View) (e : ℕ) : Type 0 where
 abbrev pub EachEventHasOneDot : Type 0
 EachEventHasOneDot = (c : Content) (view : View) (e : ℕ) → IsInRange c view e → count_by (λ dot. dot.event.0 == e) (dots_in (picture_of c view)) ≡ 1
 
--- a dot is that of such an event, stands on the lane of its node, and has its number, the one that is shown of it, and its look
+-- a dot is that of such an event, stands on the lane of its node and in its row, and has its number, the one that is shown of it, and its look
 pub record IsDotOfEvent (c : Content) (view : View) (dot : Dot) : Type 0 where
   pub in_range : IsInRange c view dot.event.0
   pub lane : dot.at.x ≡ x_of (picture_of c view).frame (lane_at c (lanes_in c view) dot.event.0)
+  pub row : dot.at.y ≡ y_of (picture_of c view).frame dot.event.0
   pub number : dot.number ≡ c.number dot.event.0
   pub shown : dot.shown ≡ c.shown dot.event.0
   pub look : dot.look ≡ c.look dot.event.0
