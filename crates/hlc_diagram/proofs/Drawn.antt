@@ -117,7 +117,7 @@ each_event_has_one_dot c view e r = one_dot c view e r
 pub dots_are_of_events : DotsAreOfEvents
 dots_are_of_events c view d among =
     let is = dot_is c view d among in
-    subst (λ (d : Dot). IsDotOfEvent c view d) is.2 (record { in_range = is.1; lane = refl; number = refl; shown = refl; look = refl })
+    subst (λ (d : Dot). IsDotOfEvent c view d) is.2 (record { in_range = is.1; lane = refl; row = refl; number = refl; shown = refl; look = refl })
 
 pub titles_are_of_the_dots : TitlesAreOfTheDots
 titles_are_of_the_dots c view f among =

@@ -10,7 +10,7 @@ use Rattle.hlc_diagram.specs.Layout.{lanes_in}
 use Rattle.hlc_figures.specs.Content.{Content, NodesExist, SendsComeFirst, clock_events_of, node_at}
 use Rattle.hlc_figures.specs.Figure.{side_distance, turn_distance}
 use Rattle.hlc_figures.specs.Lanes.{lane_at}
-use Rattle.hlc_svg.specs.Frame.{x_of}
+use Rattle.hlc_svg.specs.Frame.{x_of, y_of}
 use Rattle.hlc_svg.specs.Shapes.{reach_of}
 use Rattle.hlc_svg.specs.Path.{arrow_end, arrow_start, course_of, path_of}
 use Rattle.hlc_figures.specs.FigureText.{Figure, NamedLane}
@@ -51,10 +51,11 @@ pub record IsInRange (c : Content) (view : View) (e : ℕ) : Type 0 where
 abbrev pub EachEventHasOneDot : Type 0
 EachEventHasOneDot = (c : Content) (view : View) (e : ℕ) → IsInRange c view e → count_by (λ dot. dot.event.0 == e) (dots_in (picture_of c view)) ≡ 1
 
--- a dot is that of such an event, stands on the lane of its node, and has its number, the one that is shown of it, and its look
+-- a dot is that of such an event, stands on the lane of its node and in its row, and has its number, the one that is shown of it, and its look
 pub record IsDotOfEvent (c : Content) (view : View) (dot : Dot) : Type 0 where
   pub in_range : IsInRange c view dot.event.0
   pub lane : dot.at.x ≡ x_of (picture_of c view).frame (lane_at c (lanes_in c view) dot.event.0)
+  pub row : dot.at.y ≡ y_of (picture_of c view).frame dot.event.0
   pub number : dot.number ≡ c.number dot.event.0
   pub shown : dot.shown ≡ c.shown dot.event.0
   pub look : dot.look ≡ c.look dot.event.0
@@ -62,11 +63,12 @@ pub record IsDotOfEvent (c : Content) (view : View) (dot : Dot) : Type 0 where
 abbrev pub DotsAreOfEvents : Type 0
 DotsAreOfEvents = (c : Content) (view : View) (dot : Dot) → Contains (dots_in (picture_of c view)) dot → IsDotOfEvent c view dot
 
--- the title of a dot, and the row beside it, are those of its event
+-- what is said of one picture, and so of those of views and of chains: titles and rows are of the events of the dots
 abbrev pub TitlesAreOfTheDotsIn : Content → Picture → Type 0
 TitlesAreOfTheDotsIn c p = (f : Figure) → Contains (figures_in p) f →
     (f.title ≡ title_text c f.dot.event.0) × (f.row ≡ row_at c p.frame f.dot.at.y f.dot.event.0)
 
+-- the title of a dot, and the row beside it, are those of its event
 abbrev pub TitlesAreOfTheDots : Type 0
 TitlesAreOfTheDots = (c : Content) (view : View) → TitlesAreOfTheDotsIn c (picture_of c view)
 
@@ -117,10 +119,11 @@ entering_in p = filter_map (λ f. f.entering) (figures_in p)
 abbrev pub leaving_in : Picture → List End
 leaving_in p = filter_map (λ f. f.leaving) (figures_in p)
 
--- no arrow comes nearer to a dot than half its width and height: neither one between two dots, which it only touches, nor one over a border
+-- so of arrows that keep clear of dots
 abbrev pub ArrowsKeepClearIn : Picture → Type 0
 ArrowsKeepClearIn p = (arrow : Arrow) (dot : Dot) → Contains (arrows_in p) arrow → Contains (dots_in p) dot → KeepsClear dot (path_of arrow.route)
 
+-- no arrow comes nearer to a dot than half its width and height: neither one between two dots, which it only touches, nor one over a border
 abbrev pub ArrowsKeepClear : Type 0
 ArrowsKeepClear = (c : Content) (view : View) → ArrowsKeepClearIn (picture_of c view)
 
@@ -144,20 +147,21 @@ TurnInRows ends = (a b : End) → Contains ends a → Contains ends b → (a ≡
 abbrev pub BorderArrowsTurnInRows : Type 0
 BorderArrowsTurnInRows = (c : Content) (view : View) → TurnInRows (entering_in (picture_of c view)) × TurnInRows (leaving_in (picture_of c view))
 
--- unless each node has a lane, the node of a lane has a dot on it
+-- and of lanes that are of dots, and dots that stand on lanes
 abbrev pub LanesAreOfDotsIn : Content → Picture → Type 0
 LanesAreOfDotsIn c p = (lane : NamedLane) → c.every_lane ≡ false → Contains p.lanes lane →
     (dot : Dot) × Contains (dots_in p) dot × (node_at c dot.event.0 ≡ lane.lane.node.0) × (dot.at.x ≡ lane.lane.x)
 
-abbrev pub LanesAreOfDots : Type 0
-LanesAreOfDots = (c : Content) (view : View) → LanesAreOfDotsIn c (picture_of c view)
-
--- and each dot stands on the lane of its node, which has its name
 abbrev pub DotsStandOnLanesIn : Content → Picture → Type 0
 DotsStandOnLanesIn c p = (dot : Dot) → NodesExist c → Contains (dots_in p) dot →
     (lane : NamedLane) × Contains p.lanes lane × (lane.lane.node.0 ≡ node_at c dot.event.0) × (dot.at.x ≡ lane.lane.x)
     × (lane.name ≡ c.name (node_at c dot.event.0))
 
+-- unless each node has a lane, the node of a lane has a dot on it
+abbrev pub LanesAreOfDots : Type 0
+LanesAreOfDots = (c : Content) (view : View) → LanesAreOfDotsIn c (picture_of c view)
+
+-- and each dot stands on the lane of its node, which has its name
 abbrev pub DotsStandOnLanes : Type 0
 DotsStandOnLanes = (c : Content) (view : View) → DotsStandOnLanesIn c (picture_of c view)
 

@@ -22,6 +22,7 @@ drawn_row c explained frame lanes (Event e) = OfEvent (figure_of c explained fra
 drawn_row c explained frame lanes (Chained stop) = OfEvent (stop_figure c frame lanes stop)
 drawn_row c explained frame lanes (Between gap) = OfGap (counted_in frame gap)
 
+-- and in a row of a scene
 abbrev pub drawn_in : Content → Scene → Row → DrawnRow
 drawn_in c s row = drawn_row c s.explained s.frame s.lanes.now row
 
@@ -30,7 +31,7 @@ abbrev pub figure_in : DrawnRow → Option Figure
 figure_in (OfEvent figure) = Some figure
 figure_in (OfGap counted) = None
 
--- what a layer has of it
+-- what a layer has of what is drawn in a row
 abbrev pub layer_text : Layer → DrawnRow → List ℕ
 layer_text layer (OfEvent figure) = figure_text layer figure
 layer_text layer (OfGap counted) = gap_text layer counted

@@ -109,8 +109,8 @@ pub fn arrow<S: Subject>(subject: &S, scene: &Scene<'_>, event: EventId) -> Opti
         return None;
     }
     let (from, to) = (stand_in(scene.frame, sent), stand_in(scene.frame, event));
-    let is_marked = is_step(subject, scene, sent, event);
-    Some(arrow_along(subject, scene, from, to, is_marked))
+    let is_step = is_step(subject, scene, sent, event);
+    Some(arrow_along(subject, scene, from, to, is_step))
 }
 
 // Where a border is.
