@@ -2,8 +2,8 @@
 //!
 //! - `watch_log` reads a log to its end. As soon as the three records have come that tell which rules an event breaks (`hlc_watch`), it writes the rows
 //!   `cause` of that event, worded as an audit words them; it writes a row `over` of an event that claims to be further ahead of its clock than a limit;
-//!   and then, if there was a row, it flushes the writer. In the end, and after every so many events if the rules want that, it writes rows that sum the log up, among them those
-//!   of how far one node's clock is ahead of another's, as the messages show it that were judged.
+//!   and then, if there was a row, it flushes the writer. In the end, and after every so many events if the rules want that, it writes rows that sum the
+//!   log up, among them those of how far one node's clock is ahead of another's, as the messages show it that were judged.
 //! - `WatchRules` says how the log is read, and how many messages are remembered. A message that is mentioned again after it was forgotten is a new one.
 //! - `WatchOutcome` says what was found.
 //! - `laws` says that what is told of causes is what the records of the log tell, whatever was forgotten.

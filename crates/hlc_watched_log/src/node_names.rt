@@ -9,18 +9,17 @@ use hlc_log_text::{NameKey, NameSet};
 use std::alloc::{AllocError, Global};
 use std::marker::Model;
 
-// How many numbers are guessed.
-const GUESSES: usize = 256;
+// How many sums of names are told apart.
+const SUMS: usize = 1_024;
 
 // The names of the nodes of a log, by their numbers; seen as the list of them.
 //
-// The number of a name is guessed first, as that of the last one in its place: to see whether that is right takes one comparison, where to hash the name
-// takes some two hundred instructions. A wrong guess costs that comparison more, whoever chose the names.
+// A name is compared first with the last one of the same sum, and hashed only if it is another: that takes less, whoever chose the names.
 #[derive(Drop)]
 pub(crate) struct NodeNames {
     names: NameSet,
-    // By the places of names, the number of the last one that was looked for there, if it has 16 bits.
-    guesses: Vec<u16>,
+    // Of each sum that a name can have, the number of the name of that sum that was looked for last, or another one, if that has more than 16 bits.
+    hints: Vec<u16>,
 }
 
 impl Model for NodeNames {
@@ -31,19 +30,18 @@ impl Model for NodeNames {
 
     ghost view = { λ n. n.names };
 
-    ghost invariant = { λ n. EachNameOnce n.names × (length n.guesses.items ≡ 256) };
+    ghost invariant = { λ n. EachNameOnce n.names × (length n.hints.items ≡ 1024) };
 }
 
-// The place of a name among the guesses, by its last two bytes: names that end in two digits have different ones.
-fn place(name: &[u8]) -> usize
-    ensures { result < GUESSES }
+// A sum of the bytes of a name, in which their places count.
+fn sum_of(name: &[u8]) -> usize
+    ensures { result < SUMS }
 {
-    let len = name.len();
-    if len == 0 {
-        return 0;
+    let mut sum: u32 = 0;
+    for byte in name {
+        sum = sum.wrapping_mul(31).wrapping_add(u32::from(*byte));
     }
-    let before = if len == 1 { 0 } else { name[len - 2] };
-    (usize::from(before) * 10 + usize::from(name[len - 1])) % GUESSES
+    sum as usize % SUMS
 }
 
 impl NodeNames {
@@ -53,7 +51,7 @@ impl NodeNames {
     {
         Ok(NodeNames {
             names: NameSet::new(alloc, key),
-            guesses: vec![in alloc; 0; GUESSES]?,
+            hints: vec![in alloc; 0; SUMS]?,
         })
     }
 
@@ -74,18 +72,18 @@ impl NodeNames {
         }
     }
 
-    // The number of a name, which a new one takes at their end. Nothing but guesses changes.
+    // The number of a name, which a new one takes at their end. Nothing but hints changes.
     pub(crate) fn number(&mut self, name: &[u8]) -> usize
         ensures number { result ≡ name_number self.old name.now }
         ensures same { self.new ≡ self.old }
     {
-        let place = place(name);
-        let guess = usize::from(self.guesses[place]);
-        if self.has_number(name, guess) {
-            return guess;
+        let sum = sum_of(name);
+        let hint = usize::from(self.hints[sum]);
+        if self.has_number(name, hint) {
+            return hint;
         }
         let number = name_number(&self.names, name);
-        self.guesses[place] = number.min(usize::from(u16::MAX)) as u16;
+        self.hints[sum] = number.min(usize::from(u16::MAX)) as u16;
         number
     }
 

@@ -25,7 +25,7 @@ use hlc_csv::{OutputFault, field};
 use hlc_log::LogEvent;
 use hlc_log_text::{BadLog, Extras, NODE_PLACE, NameKey, NameSet, RecordHead, RecordItem};
 use hlc_stamp::NodeId;
-use hlc_watch::{Complete, RuledEvent, Watch};
+use hlc_watch::{RuledEvent, Watch};
 use std::alloc::{AllocError, Global};
 use std::collections::BTreeMap;
 use std::io::Write;
@@ -85,25 +85,15 @@ fn add_node(
     Ok(())
 }
 
-// An event that was added, by numbers.
-#[derive(Drop)]
-struct Added {
-    event: LogEvent,
-    // Which events are complete with it.
-    complete: Complete,
-    // Whether there is a row of these or of it.
-    is_told: bool,
-}
-
 impl LogWatch {
     ghost use Rattle.std.specs.Prelude.{◌≡◌, ◌^◌, ◌+◌, ◌-◌, ◌<◌, ◌≤◌, ◌∷◌, [], IfOk, Ok, OnOk, length};
     ghost use Rattle.csv.specs.Records.{fields_of};
     ghost use Rattle.hlc_log.specs.Events.{IsSmallCarried};
     ghost use Rattle.hlc_log_text.specs.LogHeader.{HasSmallCarried, IsSmallTold};
-    ghost use Rattle.hlc_watched_log.specs.Taken.{IsWhole, Takes, TakesEvent, TakesItem, complete_in};
+    ghost use Rattle.hlc_watched_log.specs.Taken.{IsWhole, Takes, TakesEvent, TakesItem};
     ghost use Rattle.hlc_watched_log.specs.Files.{line_here};
     ghost use Rattle.hlc_watched_log.specs.Numbers.{name_number};
-    ghost use Rattle.hlc_watched_log.specs.Watched.{bad_row, complete_as, due_rows, event_by, in_file, is_told, no_events, on_line, summary_rows, with_event, without_bad};
+    ghost use Rattle.hlc_watched_log.specs.Watched.{bad_row, complete_as, due_rows, event_by, event_rows, in_file, no_events, on_line, summary_rows, with_event, without_bad};
 
     // Nothing came.
     pub(crate) fn new(
@@ -213,8 +203,8 @@ impl LogWatch {
         self.names.nodes.number(name)
     }
 
-    // Adds an event of a node and a message with these names, the number of the node being known.
-    fn add(
+    // Adds an event of a node and a message with these names, the number of the node being known, and tells of it. Gives it by numbers.
+    fn add<W: Write>(
         &mut self,
         rules: WatchRules,
         head: RecordHead,
@@ -222,16 +212,17 @@ impl LogWatch {
         node: &[u8],
         number: usize,
         message: &[u8],
-    ) -> Result<Added, AllocError>
+        writer: &mut W,
+    ) -> Result<LogEvent, OutputFault>
         requires number { number ≡ name_number self.old.names.nodes node.now }
         requires few { number < MAX_LOG_NODES }
         requires whole { IsWhole self.old }
         requires room { self.old.events < 2 ^ 32 - 1 }
         requires small { IsSmallCarried extras.carried }
-        ensures event { IfOk result (λ added. added.event ≡ event_by self.old head extras node.now message.now) }
-        ensures complete { IfOk result (λ added. complete_in added.complete ≡ complete_as rules self.old.kept self.old.files.current added.event) }
-        ensures told { IfOk result (λ added. added.is_told ≡ is_told rules (complete_in added.complete) added.event) }
-        ensures kept { IfOk result (λ added. self.new ≡ with_event rules self.old head.word node.now message.now added.event) }
+        ensures event { IfOk result (λ event. event ≡ event_by self.old head extras node.now message.now) }
+        ensures kept { IfOk result (λ event. self.new ≡ with_event rules self.old head.word node.now message.now event) }
+        ensures told { IfOk result (λ event. Appends (W.contents writer.old) (W.contents writer.new)
+            (text_of (event_rows rules self.new.names (complete_as rules self.old.kept self.old.files.current event) (line_here self.old.files) event))) }
         ensures whole { OnOk result (IsWhole self.new) }
     {
         let line = self.files.line_here();
@@ -262,11 +253,18 @@ impl LogWatch {
         let found = found_in(rules.records.form.full(), &complete);
         let over_limit = is_over(rules.limit, claimed_ahead(&event));
         self.counts = self.counts.with_event(event.kind, found.broken, over_limit);
-        Ok(Added {
-            event,
-            complete,
-            is_told: found.tells(over_limit),
-        })
+        let told = found.tells(over_limit);
+        write_event(
+            self.alloc,
+            &self.names,
+            rules,
+            &complete,
+            line,
+            &event,
+            told,
+            writer,
+        )?;
+        Ok(event)
     }
 
     // Adds an event and tells of it, or tells why it can't be watched. Its names stand in these fields.
@@ -298,18 +296,7 @@ impl LogWatch {
         ) {
             return Ok(Some(why));
         }
-        let added = self.add(rules, head, extras, node, number, message)?;
-        let line = self.files.line_here();
-        write_event(
-            self.alloc,
-            &self.names,
-            rules,
-            &added.complete,
-            line,
-            &added.event,
-            added.is_told,
-            writer,
-        )?;
+        self.add(rules, head, extras, node, number, message, writer)?;
         self.sum_up_if_due(rules.every, writer)?;
         Ok(None)
     }

@@ -5,4 +5,4 @@ use Rattle.hlc_watched_log.proofs.node_names.NodeNames.number.Goals as goal
 
 pub returns-then-has_number-clause-number : goal.returns-then-has_number-clause-number
 returns-then-has_number-clause-number c =
-    sym (number_there c.args.self.now c.args.name.now c.from-guess.result (subst EachNameOnce c.self.view_is c.self.invariant.0) (c.if-has_number.ensures refl))
+    sym (number_there c.args.self.now c.args.name.now c.from-hint.result (subst EachNameOnce c.self.view_is c.self.invariant.0) (c.if-has_number.ensures refl))

@@ -1,4 +1,4 @@
-use Rattle.std.proofs.Common.{◌≡◌, ◌∙◌, None, Option, ap, subst, sym}
+use Rattle.std.proofs.Common.{◌≡◌, ◌∙◌, None, Option, ap, refl, subst, sym}
 use Rattle.csv.specs.Records.{fields_of}
 use Rattle.hlc_log_text.specs.NamedEvent.{NamedEvent}
 use Rattle.hlc_log_text.specs.declared.bad_log.BadLog.{BadLog}
@@ -24,10 +24,12 @@ returns-clause-taken g c named is =
     let good : None ≡ unwatched_by rules.records.form head.word head.has_stamp (message rules old head extras placed is.0 is.1) (name_number old.names.nodes (node rules old head extras placed is.0 is.1)) =
     sym c.in_default.is ∙ c.unwatched.ensures
     ∙ (λ i. unwatched_by rules.records.form head.word head.has_stamp (message_is i) ((number ∙ ap (name_number old.names.nodes) node_is) i)) in
-    let event = c.in_ok-added.ensures.event ∙ (λ i. event_by (same i) head extras (node_is i) (message_is i)) in
-    let complete = c.in_ok-added.ensures.complete ∙ ap (λ (l : WatchedLog). complete_as rules l.kept l.files.current c.in_ok-added.added.event) same in
-    let kept = c.in_ok-added.ensures.kept ∙ (λ i. with_event rules (same i) head.word (node_is i) (message_is i) c.in_ok-added.added.event) in
+    let added = c.in_ok-add.field-0 in
+    let event = c.in_ok-add.ensures.event ∙ (λ i. event_by (same i) head extras (node_is i) (message_is i)) in
+    let complete = ap (λ (l : WatchedLog). complete_as rules l.kept l.files.current added) same in
+    let kept = c.in_ok-add.ensures.kept ∙ (λ i. with_event rules (same i) head.word (node_is i) (message_is i) added) in
+    let line = ap (λ (l : WatchedLog). line_here l.files) same ∙ sym (ap (λ (l : WatchedLog). line_here l.files) kept) in
     subst (λ (n : NamedEvent). (let o : Option BadLog = None in o ≡ unwatched rules.records.form old.names.nodes n) × TakesOr rules old (Option.Some n) (at c.args.writer.now) (at c.sum_up_if_due.new.writer) c.add.new.self None)
     (sym is.2)
-    (event_taken rules old head extras placed is.0 is.1 c.in_ok-added.added.event _ c.add.new.self c.self.inside.names c.line_here-line.result (at c.args.writer.now) (at c.write_event.new.writer)
-    (at c.sum_up_if_due.new.writer) good event complete kept (ap (λ (l : WatchedLog). l.names) c.self.view_is) (c.line_here-line.ensures ∙ ap (λ (l : WatchedLog). line_here l.files) c.self.view_is) c.in_ok-write_event.ensures c.in_ok-sum_up_if_due.ensures)
+    (event_taken rules old head extras placed is.0 is.1 added _ c.add.new.self c.add.new.self.names _ (at c.args.writer.now) (at c.add.new.writer)
+    (at c.sum_up_if_due.new.writer) good event complete kept refl line c.in_ok-add.ensures.told c.in_ok-sum_up_if_due.ensures)
