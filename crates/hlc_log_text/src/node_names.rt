@@ -27,7 +27,8 @@ impl Model for NodeNames {
 }
 
 impl NodeNames {
-    ghost use Rattle.std.specs.Prelude.{◌≡◌, [], IfOk, IfSome, OnErr, OnOk, Some, position, slice_get};
+    ghost use Rattle.std.specs.Prelude.{◌≡◌, [], IfOk, IfSome, OnErr, OnOk, Some, is_some, position, slice_get};
+    ghost use Rattle.std.specs.List.{list_any};
     ghost use Rattle.std.specs.Str.{bytes_eq};
     ghost use Rattle.hlc_log_text.specs.Names.{with_name};
 
@@ -52,6 +53,7 @@ impl NodeNames {
     pub fn number(&mut self, name: &[u8]) -> Option<usize>
         ensures number { result ≡ position (bytes_eq name.now) self.old }
         ensures name { IfSome result (λ number. slice_get self.old number ≡ Some name.now) }
+        ensures known { is_some result ≡ list_any (bytes_eq name.now) self.old }
         ensures same { self.new ≡ self.old }
     {
         let hint = usize::from(self.hints.node(name).0);

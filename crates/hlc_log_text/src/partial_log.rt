@@ -1,6 +1,8 @@
 // A log while it is read.
 
-ghost use Rattle.std.specs.Prelude.{◌≡◌, ◌^◌, ◌<◌, ◌≤◌, ◌∷◌, ◌++◌, ℕ, List, [], IfOk, IsTrue, MatchResult, None, OnOk, Some, ◌&&◌, length, option_map, slice_get, true};
+ghost use Rattle.std.specs.Prelude.{◌≡◌, ◌^◌, ◌<◌, ◌≤◌, ◌∷◌, ◌++◌, ℕ, List, [], IfOk, IsTrue, MatchResult, None, OnOk, Some, ◌&&◌, false, length, option_map, slice_get, true};
+ghost use Rattle.std.specs.List.{list_any};
+ghost use Rattle.std.specs.Str.{bytes_eq};
 ghost use Rattle.csv.specs.Records.{fields_of};
 ghost use Rattle.hlc_csv.specs.Rows.{field_of};
 ghost use Rattle.hlc_log_text.specs.BadRecords.{MayBeLeftOut, bad_records_on, told_before};
@@ -101,11 +103,22 @@ fn number_node(nodes: &mut NodeNames, name: &[u8]) -> Result<Option<NodeId>, All
     requires { length nodes.old ≤ MAX_LOG_NODES }
     ensures { IfOk result (NumbersNode nodes.old nodes.new name.now) }
 {
-    let number = match nodes.number(name) {
-        Some(number) => number,
-        None if nodes.names().len() == MAX_LOG_NODES as usize => return Ok(None),
-        None => nodes.mention(name)?,
-    };
+    match nodes.number(name) {
+        Some(number) => Ok(Some(NodeId(number as u16))),
+        None => mention_node(nodes, name),
+    }
+}
+
+// The number of a node of a new name, unless it would be one too many.
+fn mention_node(nodes: &mut NodeNames, name: &[u8]) -> Result<Option<NodeId>, AllocError>
+    requires few { length nodes.old ≤ MAX_LOG_NODES }
+    requires new { list_any (bytes_eq name.now) nodes.old ≡ false }
+    ensures { IfOk result (NumbersNode nodes.old nodes.new name.now) }
+{
+    if nodes.names().len() == MAX_LOG_NODES as usize {
+        return Ok(None);
+    }
+    let number = nodes.mention(name)?;
     Ok(Some(NodeId(number as u16)))
 }
 

@@ -3,7 +3,6 @@ pub mod EventsKept
 pub mod EventsTaken
 pub mod Headers
 pub mod NameNumbers
-pub mod NodeNumbers
 pub mod Records
 pub mod RowsAdded
 pub mod SoFar

@@ -23,7 +23,6 @@ mod found;
 pub mod laws;
 mod log_names;
 mod named_event;
-mod node_names;
 mod node_tally;
 mod numbers;
 mod outcome;

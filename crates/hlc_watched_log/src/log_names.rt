@@ -4,8 +4,7 @@ ghost use Rattle.std.specs.Prelude.{◌≡◌, IfOk, option_map};
 ghost use Rattle.hlc_log_text.specs.LogText.{name_of};
 ghost use Rattle.hlc_watched_log.specs.Files.{file_named, told_line};
 
-use crate::node_names::NodeNames;
-use hlc_log_text::{LineText, Location, NameSet};
+use hlc_log_text::{LineText, Location, NameSet, NodeNames};
 use hlc_pages::Bytes;
 use hlc_stamp::NodeId;
 use hlc_watch::FileLine;
@@ -23,7 +22,7 @@ impl LogNames {
     pub(crate) fn node(&self, node: NodeId) -> &[u8]
         ensures { result.now ≡ name_of self.now.nodes node.0 }
     {
-        self.nodes.name(node.0 as usize).unwrap_or(b"")
+        self.nodes.names().name(node.0 as usize).unwrap_or(b"")
     }
 
     // The name of a file, if it has one.

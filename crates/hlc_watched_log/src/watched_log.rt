@@ -13,7 +13,6 @@ use crate::file_lines::FileLines;
 use crate::found::found_in;
 use crate::log_names::LogNames;
 use crate::named_event::{message_name, unwatched};
-use crate::node_names::NodeNames;
 use crate::node_tally::{NodeTally, claimed_ahead, one_more};
 use crate::numbers::{MessageNames, name_number, no_messages, number_kind};
 use crate::skews::{ShownSkews, take_skews};
@@ -23,7 +22,9 @@ use crate::watch_rules::WatchRules;
 use csv::ByteRecord;
 use hlc_csv::{OutputFault, field};
 use hlc_log::LogEvent;
-use hlc_log_text::{BadLog, Extras, NODE_PLACE, NameKey, NameSet, RecordHead, RecordItem};
+use hlc_log_text::{
+    BadLog, Extras, NODE_PLACE, NameKey, NameSet, NodeNames, RecordHead, RecordItem,
+};
 use hlc_stamp::NodeId;
 use hlc_watch::{RuledEvent, Watch};
 use std::alloc::{AllocError, Global};
@@ -104,13 +105,12 @@ impl LogWatch {
         ensures nothing { IfOk result (λ log. log ≡ no_events rules.keep) }
         ensures whole { IfOk result IsWhole }
     {
-        let nodes = NodeNames::new(alloc, key)?;
         let files = FileLines::new(alloc)?;
         let messages = no_messages(alloc, rules.keep, key)?;
         let watch = Watch::new(alloc, rules.keep)?;
         Ok(LogWatch {
             names: LogNames {
-                nodes,
+                nodes: NodeNames::new(alloc, key),
                 files: NameSet::new(alloc, key),
             },
             files,
@@ -200,7 +200,8 @@ impl LogWatch {
         ensures number { result ≡ name_number self.old.names.nodes name.now }
         ensures same { self.new ≡ self.old }
     {
-        self.names.nodes.number(name)
+        let count = self.names.nodes.names().len();
+        self.names.nodes.number(name).unwrap_or(count)
     }
 
     // Adds an event of a node and a message with these names, the number of the node being known, and tells of it. Gives it by numbers.

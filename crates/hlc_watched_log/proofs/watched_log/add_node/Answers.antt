@@ -6,7 +6,7 @@ pub returns-in_ok-push-clause-one_each : goal.returns-in_ok-push-clause-one_each
 returns-in_ok-push-clause-one_each c =
     let nodes = c.args.nodes.now in
     let number : c.args.number ≡ length nodes = omega (arith, c.if-number-len.true, c.requires.one_each, c.len.ensures) in
-    let names = ap length (c.in_ok-mention.ensures ∙ new_name nodes c.args.name.now (sym c.requires.number ∙ number)) in
+    let names = ap length (c.in_ok-mention.ensures.names ∙ new_name nodes c.args.name.now (sym c.requires.number ∙ number)) in
     let tallies = ap length c.in_ok-push.ensures.items in
     grind (arith, length-append)
 
