@@ -197,8 +197,8 @@ fn watch_records<R: Read + Drop, W: Write>(
 /// Watches a log: answers each of its records as it comes, and sums the log up in the end.
 ///
 /// What there is to say of a record is written, and the writer is flushed, as soon as the reader has given the last byte of the record; where there is
-/// nothing, the writer is left alone. It takes constant time for each record, and memory for each node, for each message that is remembered and for each receive that waits. A log has
-/// as many records as lines are counted, and more are a fault.
+/// nothing, the writer is left alone. It takes constant time for each record, and memory for each node, for each message that is remembered and for each
+/// receive that waits. A log has as many records as lines are counted, and more are a fault.
 pub fn watch_log<R: Read + Drop, W: Write>(
     alloc: Global,
     reader: R,
