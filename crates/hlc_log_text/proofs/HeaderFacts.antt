@@ -1,6 +1,7 @@
 -- Records of a log, each read by itself.
 use Rattle.std.proofs.Common.{◌≡◌, ◌∙◌, ◌++◌, ◌∷◌, [], Bool, Bor, true, false, cond, List, ℕ, Option, Some, None, Result, Ok, Err, ap, refl, subst, sym}
 use Rattle.std.specs.Prelude.{is_some, option_map}
+use Rattle.std.proofs.lemmas.List.Sums.{fold-append}
 use Rattle.hlc_csv.specs.Rows.{Fields, field_of}
 use Rattle.hlc_log_text.specs.Columns.{arranged, arranged_after_word, carried_for, columns_by, columns_of, extras_after_word, extras_for, from_in, seq_in}
 use Rattle.hlc_log_text.specs.FileMarks.{begun_file}
@@ -11,8 +12,8 @@ use Rattle.hlc_log_text.specs.declared.log_word.LogWord.{LogWord}
 use Rattle.hlc_log_text.proofs.ExtendedItems.{extended_item, said_by}
 use Rattle.hlc_log_text.proofs.ReadingFacts.{AreSmallExtras, carried_for_small, extras_with_small}
 use Rattle.hlc_log_text.specs.FaultRule.{leaves_sent}
-use Rattle.hlc_log_text.specs.LogHeader.{BeginsFile, HasSmallHead, IsHeadSaid, IsHeaderAfter, IsSaid, asked_fault, said_item}
-use Rattle.hlc_log_text.specs.LogItem.{Asks, Begins, LogItem, Tells, asks, begins_as_skip, columns_after, columns_then, events_in, extend, header_item, if_file, is_header, item_after, item_by_file, item_from, item_in, other_item, skip_item, unless_missing, unless_sent}
+use Rattle.hlc_log_text.specs.LogHeader.{BeginsFile, HasSmallHead, IsHeadSaid, IsHeaderAfter, IsPassed, IsSaid, PassesNext, asked_fault, said_item}
+use Rattle.hlc_log_text.specs.LogItem.{Asks, Begins, Fails, LogItem, Names, Skips, Tells, asks, begins_as_skip, columns_after, columns_then, events_in, extend, header_columns, header_item, if_file, is_at_start, is_header, item_after, item_by_file, item_from, item_in, other_item, skip_item, unless_missing, unless_sent}
 use Rattle.hlc_log_text.specs.Missing.{missing_by}
 use Rattle.hlc_log_text.specs.declared.bad_log.BadLog.{BadLog}
 use Rattle.hlc_log_text.specs.declared.columns.Columns.{Columns}
@@ -24,26 +25,42 @@ use Rattle.hlc_log_text.specs.declared.log_header.RecordItem.TheVariants.{Event}
 use Rattle.hlc_log_text.specs.declared.log_rules.LogRules.{LogRules}
 use Rattle.hlc_log_text.specs.declared.record_head.RecordHead.{RecordHead}
 use Rattle.hlc_log_text.specs.declared.stamp_form.StampForm.{StampForm}
-use Rattle.hlc_log_text.proofs.LogFacts.{at_start-more, header_columns-more}
 use Rattle.hlc_log_text.proofs.TakenItems.{unheaded}
 
--- what is kept after one record more, by what it says
-abbrev pub IsKept : (old new : LogHeader) → LogItem → Type 0
-IsKept old new item = (new.columns ≡ columns_then old.columns item) × (new.at_start ≡ is_some (if_file item))
+-- the columns after one more record, and whether the next is the first of a file
+pub header_columns-more : (items : List LogItem) (item : LogItem) → header_columns (items ++ item ∷ []) ≡ columns_then (header_columns items) item
+header_columns-more items item = fold-append columns_then None items (item ∷ [])
 
-kept_after : (items : List LogItem) (item : LogItem) (old new : LogHeader) → IsHeaderAfter items old → IsKept old new item → IsHeaderAfter (items ++ item ∷ []) new
-kept_after items item old new h kept = record {
-  columns = kept.0 ∙ ap (λ (columns : Option Columns). columns_then columns item) h.columns ∙ sym (header_columns-more items item);
-  at_start = kept.1 ∙ sym (at_start-more items item);
+at_start-more : (items : List LogItem) (item : LogItem) → is_at_start (items ++ item ∷ []) ≡ is_some (if_file item)
+at_start-more items item = fold-append (λ (_ : Bool) (item : LogItem). is_some (if_file item)) true items (item ∷ [])
+
+-- what is kept after a record that names columns, after one that begins a file, and after any other
+pub headed_by : (columns : Columns) (items : List LogItem) (new : LogHeader) → new.columns ≡ Some columns → new.at_start ≡ false
+    → IsHeaderAfter (items ++ Names columns ∷ []) new
+headed_by columns items new named start = record {
+  columns = named ∙ sym (header_columns-more items (Names columns));
+  at_start = start ∙ sym (at_start-more items (Names columns));
+}
+
+pub begun_by : (items : List LogItem) (name : List ℕ) (new : LogHeader) → new.columns ≡ None → new.at_start ≡ true
+    → IsHeaderAfter (items ++ Begins name ∷ []) new
+begun_by items name new none start = record {
+  columns = none ∙ sym (header_columns-more items (Begins name));
+  at_start = start ∙ sym (at_start-more items (Begins name));
+}
+
+pub passes : (old new : LogHeader) → new.columns ≡ old.columns → new.at_start ≡ false → PassesNext old new
+passes old new same start items item passed h = record {
+  columns = same ∙ h.columns ∙ sym (header_columns-more items item ∙ passed.1 (header_columns items));
+  at_start = start ∙ sym (at_start-more items item ∙ ap is_some passed.0);
 }
 
 -- the next record says this, which is told so
-pub says_next : (rules : LogRules) (items : List LogItem) (fields placed : Fields) (old new : LogHeader) (said : Result LogItem BadLog) (told : Result RecordItem BadLog)
-    → IsHeaderAfter items old → item_after rules items fields ≡ said → IsSaid rules.form placed said told → IsKept old new (said_item said)
+pub says_next : (rules : LogRules) (items : List LogItem) (fields placed : Fields) (new : LogHeader) (said : Result LogItem BadLog)
+    (told : Result RecordItem BadLog) → item_after rules items fields ≡ said → IsSaid rules.form placed said told → IsHeaderAfter (items ++ said_item said ∷ []) new
     → IsSaid rules.form placed (item_after rules items fields) told × IsHeaderAfter (items ++ said_item (item_after rules items fields) ∷ []) new
-says_next rules items fields placed old new said told h is tells kept =
-    subst (λ (r : Result LogItem BadLog). IsSaid rules.form placed r told × IsHeaderAfter (items ++ said_item r ∷ []) new) (sym is)
-    (tells, kept_after items (said_item said) old new h kept)
+says_next rules items fields placed new said told is tells after =
+    subst (λ (r : Result LogItem BadLog). IsSaid rules.form placed r told × IsHeaderAfter (items ++ said_item r ∷ []) new) (sym is) (tells, after)
 
 -- a header
 pub headed : (rules : LogRules) (items : List LogItem) (fields : Fields) → is_header rules.syntax items fields ≡ true
@@ -52,21 +69,13 @@ headed rules items fields is =
     ap (λ (test : Bool). cond test (header_item rules.form (columns_of fields)) (unless_missing (missing_by rules.syntax rules.form fields)
     (unless_sent (leaves_sent rules.faults rules.resent) (events_in items) (item_in rules (columns_after rules items) fields)))) is
 
--- a record that lacks a column
-pub lacking : (rules : LogRules) (items : List LogItem) (fields : Fields) (column : LogColumn) → is_header rules.syntax items fields ≡ false
-    → missing_by rules.syntax rules.form fields ≡ Some column
-    → item_after rules items fields ≡ unless_missing (Some column)
-    (unless_sent (leaves_sent rules.faults rules.resent) (events_in items) (item_in rules (columns_after rules items) fields))
-lacking rules items fields column plain is = unheaded rules items fields (Some column) plain is
-
--- one that lacks none, where sends of what is sent already aren't left out
-pub by_columns : (rules : LogRules) (items : List LogItem) (fields : Fields) (old : LogHeader) → leaves_sent rules.faults rules.resent ≡ false → IsHeaderAfter items old
+-- a record that is no header and lacks no column, where sends of what is sent already aren't left out
+by_columns : (rules : LogRules) (items : List LogItem) (fields : Fields) → leaves_sent rules.faults rules.resent ≡ false
     → is_header rules.syntax items fields ≡ false → missing_by rules.syntax rules.form fields ≡ None
-    → item_after rules items fields ≡ item_in rules (columns_by rules.syntax old.columns) fields
-by_columns rules items fields old leaves h plain none =
+    → item_after rules items fields ≡ item_in rules (columns_after rules items) fields
+by_columns rules items fields leaves plain none =
     unheaded rules items fields None plain none
     ∙ ap (λ (is_bad : Bool). unless_sent is_bad (events_in items) (item_in rules (columns_after rules items) fields)) leaves
-    ∙ ap (λ (columns : Option Columns). item_in rules (columns_by rules.syntax columns) fields) (sym h.columns)
 
 -- what a record of an event says, but for its names
 head_by : (form : StampForm) (w : LogWord) (from : Option (List ℕ)) (placed : Fields) (told : Result (RecordHead × Extras) BadLog)
@@ -115,11 +124,6 @@ none_begun : (fields : Fields) (name : Option (Bor (List ℕ))) → option_map (
 none_begun fields None is none = ap (λ (file : Option (List ℕ)). item_by_file file fields) (sym is)
 none_begun fields (Some name) is none = absurd (cc)
 
-pub skip_said : (fields : Fields) (name : Option (Bor (List ℕ))) (skips : Bool) → option_map (λ (name : Bor (List ℕ)). name.now) name ≡ begun_file fields
-    → is_some name ≡ false → skips ≡ begins_as_skip fields → skips ≡ true → other_item fields ≡ skip_item fields
-skip_said fields name skips is none test so =
-    none_begun fields name is none ∙ ap (λ (skips : Bool). cond skips (skip_item fields) (asks (asked_of fields))) (sym test ∙ so)
-
 pub question_said : (fields : Fields) (name : Option (Bor (List ℕ))) (skips : Bool) → option_map (λ (name : Bor (List ℕ)). name.now) name ≡ begun_file fields
     → is_some name ≡ false → skips ≡ begins_as_skip fields → skips ≡ false → other_item fields ≡ asks (asked_of fields)
 question_said fields name skips is none test so =
@@ -132,7 +136,7 @@ asked_as (Some why) = Err why
 pub question_told : (fields : Fields) (asked : Result Asked BadLog) (why : Option BadLog) → other_item fields ≡ asks asked → why ≡ asked_fault asked
     → BeginsFile (other_item fields) (asked_as why)
 question_told fields (Ok asked) why is at =
-    subst (λ (o : Option BadLog). BeginsFile (other_item fields) (asked_as o)) (sym at) (Asks asked, is, (refl, refl, λ columns. refl))
+    subst (λ (o : Option BadLog). BeginsFile (other_item fields) (asked_as o)) (sym at) (Asks asked, is, (refl, (refl, λ columns. refl)))
 question_told fields (Err reason) why is at = subst (λ (o : Option BadLog). BeginsFile (other_item fields) (asked_as o)) (sym at) is
 
 -- an event changes no columns, and a bad record none
@@ -140,13 +144,26 @@ abbrev pub told_so : Result (RecordHead × Extras) BadLog → Result RecordItem 
 told_so (Ok (head, extras)) = Ok (Event head extras)
 told_so (Err why) = Err why
 
-pub event_said : (form : StampForm) (placed : Fields) (said : Result LogItem BadLog) (told : Result (RecordHead × Extras) BadLog) (old new : LogHeader)
-    → new.columns ≡ old.columns → new.at_start ≡ false → IsHeadSaid form placed said told
-    → IsSaid form placed said (told_so told) × IsKept old new (said_item said)
-event_said form placed said (Ok (head, extras)) old new same start is = (
+event_said : (form : StampForm) (placed : Fields) (items : List LogItem) (said : Result LogItem BadLog) (told : Result (RecordHead × Extras) BadLog)
+    (old new : LogHeader) → IsHeaderAfter items old → PassesNext old new → IsHeadSaid form placed said told
+    → IsSaid form placed said (told_so told) × IsHeaderAfter (items ++ said_item said ∷ []) new
+event_said form placed items said (Ok (head, extras)) old new h passes is = (
   is,
-  subst (λ (r : Result LogItem BadLog). IsKept old new (said_item r)) (sym is.1)
-      (subst (λ (item : LogItem). IsKept old new item) (sym is.2.2) (same, start)),
+  subst (λ (r : Result LogItem BadLog). IsHeaderAfter (items ++ said_item r ∷ []) new) (sym is.1)
+      (passes items is.0 (subst IsPassed (sym is.2.2) (refl, λ columns. refl)) h),
 )
-event_said form placed said (Err why) old new same start is =
-    (is, subst (λ (r : Result LogItem BadLog). IsKept old new (said_item r)) (sym is) (same, start))
+event_said form placed items said (Err why) old new h passes is =
+    (is, subst (λ (r : Result LogItem BadLog). IsHeaderAfter (items ++ said_item r ∷ []) new) (sym is) (passes items (Fails why) (refl, λ columns. refl) h))
+
+pub event_next : (rules : LogRules) (items : List LogItem) (fields placed : Fields) (columns : Option Columns) (told : Result (RecordHead × Extras) BadLog)
+    (old new : LogHeader) → leaves_sent rules.faults rules.resent ≡ false → is_header rules.syntax items fields ≡ false
+    → missing_by rules.syntax rules.form fields ≡ None → IsHeaderAfter items old → PassesNext old new
+    → ((items : List LogItem) → IsHeaderAfter items new → columns ≡ columns_after rules items)
+    → IsHeadSaid rules.form placed (item_in rules columns fields) told
+    → IsSaid rules.form placed (item_after rules items fields) (told_so told) × IsHeaderAfter (items ++ said_item (item_after rules items fields) ∷ []) new
+event_next rules items fields placed columns told old new leaves plain none h passes are is =
+    let kept : columns ≡ columns_after rules items =
+    are (items ++ Skips ∷ []) (passes items Skips (refl, λ columns. refl) h) ∙ ap (columns_by rules.syntax) (header_columns-more items Skips) in
+    let said = event_said rules.form placed items (item_in rules columns fields) told old new h passes is in
+    says_next rules items fields placed new (item_in rules columns fields) (told_so told)
+    (by_columns rules items fields leaves plain none ∙ ap (λ (columns : Option Columns). item_in rules columns fields) (sym kept)) said.0 said.1

@@ -1,12 +1,11 @@
 -- One more record of a log, and its event.
 use Rattle.std.proofs.Common.{◌≡◌, ◌∙◌, ℕ, zero, suc, ◌+◌, ◌<◌, ◌≤◌, All, AllPairs, Bool, true, false, List, [], ◌∷◌, ◌++◌, Option, Some, None, ap, arith, cond, filter, length, length-append, map, refl, sym, subst}
-use Rattle.std.specs.Prelude.{◌==◌, ◌||◌, IsTrue, is_some, slice_get}
+use Rattle.std.specs.Prelude.{◌==◌, ◌||◌, IsTrue, slice_get}
 use Rattle.std.specs.Option.{option_and_then}
 use Rattle.std.specs.List.{cons_option, filter_map}
 use Rattle.std.proofs.lemmas.List.{append-nil, length-map, map_push}
 use Rattle.std.proofs.lemmas.List.Elements.{All-head, All-push, All-tail, All-weaker, filter_map-append}
 use Rattle.std.proofs.lemmas.List.Quantifiers.{all_pairs_push}
-use Rattle.std.proofs.lemmas.List.Sums.{fold-append}
 use Rattle.hlc_log_text.specs.declared.file_mark.FileMark.{FileMark}
 use Rattle.hlc_log.specs.declared.log_event.LogEvent.{LogEvent}
 use Rattle.hlc_log.specs.declared.log_event.LogKind.{LogKind}
@@ -20,13 +19,15 @@ use Rattle.hlc_log_text.specs.declared.bad_log.BadLog.{BadLog}
 use Rattle.hlc_log_text.specs.declared.columns.Columns.{Columns}
 use Rattle.hlc_log_text.specs.FileMarks.{file_mark}
 use Rattle.hlc_log_text.specs.Labels.{GivesLabel, label_at}
-use Rattle.hlc_log_text.specs.LogItem.{Asks, Begins, Fails, LogItem, Names, Skips, Tells, bad_line, bad_lines_in, columns_then, event_lines, events_in, file_names_in, header_columns, if_asked, if_event, if_file, if_reason, is_at_start, is_telling, lines_where, marks_in, picked_in, questions_in, reasons_in}
+use Rattle.hlc_log_text.specs.LogItem.{Asks, Begins, Fails, LogItem, Names, Skips, Tells, bad_line, bad_lines_in, event_lines, events_in, file_names_in, if_asked, if_event, if_file, if_reason, is_telling, lines_where, marks_in, picked_in, questions_in, reasons_in}
 use Rattle.hlc_log_text.specs.LogText.{IsNamed, IsRawLogOf, IsRawTextOf, kind_message, message_names, node_names, record_count, sender_of_event, with_names}
 use Rattle.hlc_log_text.specs.ReadText.{ReadText}
+use Rattle.hlc_log_text.specs.LogHeader.{IsHeaderAfter, PassesNext}
 use Rattle.hlc_log_text.specs.PartialLog.{AreMarked, IsNextLine, IsPartialLog, details_with, last_of, mark_at, text_of, with_message}
 use Rattle.hlc_log_text.specs.NamedEvent.{NamedEvent, without_asides}
 use Rattle.hlc_log_text.specs.Question.{Asked, plain_asked}
 use Rattle.hlc_log_text.specs.Skipped.{is_skip, skip_count, skipped_count, skipped_in, skipped_on, with_skip}
+use Rattle.hlc_log_text.specs.declared.log_header.LogHeader.{LogHeader}
 use Rattle.hlc_log_text.specs.declared.question.LogQuestion.{LogQuestion}
 use Rattle.hlc_log_text.specs.declared.partial_log.PartialLog.{PartialLog}
 use Rattle.hlc_log_text.specs.declared.sent_marks.SentMarks.{SentMarks}
@@ -162,13 +163,6 @@ one_each-more : (items : List LogItem) (lines : List ℕ) (item : LogItem) (line
 one_each-more items lines item line each =
     length-append lines (line ∷ []) ∙ ap (λ n. n + 1) each ∙ sym (length-append items (item ∷ []))
 
--- the columns after one more record, and whether the next is the first of a file
-pub header_columns-more : (items : List LogItem) (item : LogItem) → header_columns (items ++ item ∷ []) ≡ columns_then (header_columns items) item
-header_columns-more items item = fold-append columns_then None items (item ∷ [])
-
-pub at_start-more : (items : List LogItem) (item : LogItem) → is_at_start (items ++ item ∷ []) ≡ is_some (if_file item)
-at_start-more items item = fold-append (λ (_ : Bool) (item : LogItem). is_some (if_file item)) true items (item ∷ [])
-
 -- no record tells of more than one event, asks more than one question, says more than once that it was left out or is left out more than once, or does
 -- two of these
 pub length-items : (items : List LogItem) → length (events_in items) + length (questions_in items) + skip_count items + length (reasons_in items) ≤ length items
@@ -295,13 +289,12 @@ pub record Continues (old new : PartialLog) (r : NamedEvent) (e : LogEvent) : Ty
   pub few_nodes : length new.nodes ≤ MAX_LOG_NODES
   pub line : new.line ≡ e.line
   pub next : IsNextLine old e.line
-  pub columns : new.columns ≡ old.columns
+  pub header : PassesNext old.header new.header
   pub skipped : new.skipped ≡ old.skipped
   pub left_out : new.left_out ≡ old.left_out
   pub kept : new.sent.is_kept ≡ old.sent.is_kept
   pub marks : IsTrue old.sent.is_kept → (m : ℕ) → mark_at new.sent m ≡ (mark_at old.sent m || is_send m e.kind)
   pub files : new.files ≡ old.files
-  pub at_start : new.at_start ≡ false
 
 module _ (items : List LogItem) (lines : List ℕ) (old new : PartialLog) (r : NamedEvent) (e : LogEvent) (h : IsPartialLog items lines old) (n : Continues old new r e) where
   abbrev events : List NamedEvent
@@ -407,7 +400,7 @@ module _ (items : List LogItem) (lines : List ℕ) (old new : PartialLog) (r : N
         before = all_of (λ d. d.line ≤ new.line)
             (All-weaker (λ d. d.line ≤ old.line) (λ d. d.line ≤ new.line) (λ d at. omega arith) log_events h.before) (omega arith);
         low = omega arith;
-        columns = n.columns ∙ h.columns ∙ sym (header_columns-more items (Tells r));
+        header = n.header items (Tells r) (refl, λ columns. refl) h.header;
         last = omega arith;
         senders = λ place.
             asides-more (λ r. r.from) events r old.senders new.senders h.senders
@@ -419,7 +412,6 @@ module _ (items : List LogItem) (lines : List ℕ) (old new : PartialLog) (r : N
         files = files_told;
         marks = subst (All (λ (mark : FileMark). mark.line ≤ new.line)) (sym n.files)
             (All-weaker (λ (mark : FileMark). mark.line ≤ old.line) (λ (mark : FileMark). mark.line ≤ new.line) (λ mark at. omega arith) old.files h.marks);
-        at_start = n.at_start ∙ sym (at_start-more items (Tells r));
       }
 
 -- one more record that tells of no event, with the columns that it names, what it asks, the file that it begins or that it was or is left out,
@@ -433,12 +425,11 @@ pub record AddsAside (items : List LogItem) (lines : List ℕ) (old new : Partia
   pub sent : new.sent ≡ old.sent
   pub questions : map plain_asked new.questions.items ≡ questions_in (items ++ item ∷ [])
   pub next : IsNextLine old new.line
-  pub columns : new.columns ≡ columns_then old.columns item
+  pub header : IsHeaderAfter (items ++ item ∷ []) new.header
   pub skipped : new.skipped ≡ skipped_in (items ++ item ∷ []) (lines ++ new.line ∷ [])
   pub left_out : new.left_out.items ≡ bad_lines_in (items ++ item ∷ []) (lines ++ new.line ∷ [])
   pub files : new.files ≡ marks_in (items ++ item ∷ []) (lines ++ new.line ∷ [])
   pub marks : All (λ mark. mark.line ≤ new.line) new.files
-  pub at_start : new.at_start ≡ is_some (if_file item)
   pub no_event : events_in (item ∷ []) ≡ []
   pub tells_nothing : is_telling item ≡ false
 
@@ -508,7 +499,7 @@ module _ (items : List LogItem) (lines : List ℕ) (old new : PartialLog) (item 
         ends = sym (last_of-push 0 lines new.line);
         before = subst (λ (text : ReadText). All (λ e. e.line ≤ new.line) text.log.events) (sym is_other) before_all;
         low = omega arith;
-        columns = n.columns ∙ ap (λ (columns : Option Columns). columns_then columns item) h.columns ∙ sym (header_columns-more items item);
+        header = n.header;
         last = omega arith;
         senders = λ place.
             ap (λ senders. label_at senders place) n.senders ∙ h.senders place
@@ -519,7 +510,6 @@ module _ (items : List LogItem) (lines : List ℕ) (old new : PartialLog) (item 
             (subst (λ (text : ReadText). AreMarked old.sent text.log.events) (sym is_other) h.sent);
         files = n.files;
         marks = n.marks;
-        at_start = n.at_start ∙ sym (at_start-more items item);
       }
 
 -- one more record that begins no file
@@ -547,9 +537,10 @@ module _ (items : List LogItem) (lines : List ℕ) (old new : PartialLog) (quest
   left_out_kept line = h.left_out ∙ sym (bad_lines-same items lines (Asks (plain_asked question)) line refl h.one_each)
 
 -- one more record that was left out
-module _ (items : List LogItem) (lines : List ℕ) (old : PartialLog) (line : ℕ) (h : IsPartialLog items lines old) (next : IsNextLine old line) where
+module _ (items : List LogItem) (lines : List ℕ) (old : PartialLog) (line : ℕ) (header : LogHeader)
+    (h : IsPartialLog items lines old) (next : IsNextLine old line) where
   abbrev more : PartialLog
-  more = record old { skipped = Some (with_skip old.skipped line); line = line; at_start = false }
+  more = record old { skipped = Some (with_skip old.skipped line); line = line; header = header }
 
   skipped_all : more.skipped ≡ skipped_in (items ++ Skips ∷ []) (lines ++ line ∷ [])
   skipped_all =
@@ -559,8 +550,8 @@ module _ (items : List LogItem) (lines : List ℕ) (old : PartialLog) (line : �
   asked_as_before : map plain_asked old.questions.items ≡ questions_in (items ++ Skips ∷ [])
   asked_as_before = h.held.questions ∙ sym (filter_map-append if_asked items (Skips ∷ []) ∙ append-nil (questions_in items))
 
-  pub is_skipping-more : IsPartialLog (items ++ Skips ∷ []) (lines ++ line ∷ []) more
-  is_skipping-more = is_aside-more items lines old more Skips h record {
+  pub is_skipping-more : PassesNext old.header header → IsPartialLog (items ++ Skips ∷ []) (lines ++ line ∷ []) more
+  is_skipping-more passes = is_aside-more items lines old more Skips h record {
     log = refl;
     nodes = refl;
     messages = refl;
@@ -569,12 +560,11 @@ module _ (items : List LogItem) (lines : List ℕ) (old : PartialLog) (line : �
     sent = refl;
     questions = asked_as_before;
     next = next;
-    columns = refl;
+    header = passes items Skips (refl, λ columns. refl) h.header;
     skipped = skipped_all;
     left_out = h.left_out ∙ sym (bad_lines-same items lines Skips line refl h.one_each);
     files = files_kept items lines old Skips line h refl;
     marks = marks_kept items lines old Skips line h next;
-    at_start = refl;
     no_event = refl;
     tells_nothing = refl;
   }
@@ -606,12 +596,13 @@ module _ (items : List LogItem) (lines : List ℕ) (old : PartialLog) (item : Lo
   plain_left_out none = h.left_out ∙ sym (bad_lines-same items lines item line none h.one_each)
 
 -- a header, and nothing else
-module _ (items : List LogItem) (lines : List ℕ) (old : PartialLog) (columns : Columns) (line : ℕ) (h : IsPartialLog items lines old) (next : IsNextLine old line) where
+module _ (items : List LogItem) (lines : List ℕ) (old : PartialLog) (columns : Columns) (line : ℕ) (header : LogHeader)
+    (h : IsPartialLog items lines old) (next : IsNextLine old line) where
   abbrev headed : PartialLog
-  headed = record old { line = line; columns = Some columns; at_start = false }
+  headed = record old { line = line; header = header }
 
-  pub is_headed : IsPartialLog (items ++ Names columns ∷ []) (lines ++ line ∷ []) headed
-  is_headed = is_aside-more items lines old headed (Names columns) h record {
+  pub is_headed : IsHeaderAfter (items ++ Names columns ∷ []) header → IsPartialLog (items ++ Names columns ∷ []) (lines ++ line ∷ []) headed
+  is_headed after = is_aside-more items lines old headed (Names columns) h record {
     log = refl;
     nodes = refl;
     messages = refl;
@@ -620,26 +611,27 @@ module _ (items : List LogItem) (lines : List ℕ) (old : PartialLog) (columns :
     sent = refl;
     questions = plain_questions items lines old (Names columns) line h refl;
     next = next;
-    columns = refl;
+    header = after;
     skipped = plain_skipped items lines old (Names columns) line h refl;
     left_out = plain_left_out items lines old (Names columns) line h refl;
     files = files_kept items lines old (Names columns) line h refl;
     marks = marks_kept items lines old (Names columns) line h next;
-    at_start = refl;
     no_event = refl;
     tells_nothing = refl;
   }
 
 -- a file mark, and nothing else
-module _ (items : List LogItem) (lines : List ℕ) (old : PartialLog) (name : List ℕ) (line : ℕ) (h : IsPartialLog items lines old) (next : IsNextLine old line) where
+module _ (items : List LogItem) (lines : List ℕ) (old : PartialLog) (name : List ℕ) (line : ℕ) (header : LogHeader)
+    (h : IsPartialLog items lines old) (next : IsNextLine old line) where
   abbrev mark : FileMark
   mark = record { name = name; line = line }
 
   abbrev begun : List FileMark → PartialLog
-  begun files = record old { line = line; columns = None; files = files; at_start = true }
+  begun files = record old { line = line; header = header; files = files }
 
-  pub is_begun : (files : List FileMark) → files ≡ old.files ++ mark ∷ [] → IsPartialLog (items ++ Begins name ∷ []) (lines ++ line ∷ []) (begun files)
-  is_begun files pushed = is_aside-more items lines old (begun files) (Begins name) h record {
+  pub is_begun : (files : List FileMark) → files ≡ old.files ++ mark ∷ [] → IsHeaderAfter (items ++ Begins name ∷ []) header
+      → IsPartialLog (items ++ Begins name ∷ []) (lines ++ line ∷ []) (begun files)
+  is_begun files pushed after = is_aside-more items lines old (begun files) (Begins name) h record {
     log = refl;
     nodes = refl;
     messages = refl;
@@ -648,13 +640,12 @@ module _ (items : List LogItem) (lines : List ℕ) (old : PartialLog) (name : Li
     sent = refl;
     questions = plain_questions items lines old (Begins name) line h refl;
     next = next;
-    columns = refl;
+    header = after;
     skipped = plain_skipped items lines old (Begins name) line h refl;
     left_out = plain_left_out items lines old (Begins name) line h refl;
     files = pushed ∙ ap (λ (marks : List FileMark). marks ++ mark ∷ []) h.files ∙ sym (marks-more items lines (Begins name) line h.one_each);
     marks = subst (All (λ (mark : FileMark). mark.line ≤ line)) (sym pushed)
         (All-push (λ (mark : FileMark). mark.line ≤ line) old.files mark (marks_kept items lines old (Begins name) line h next) (omega arith));
-    at_start = refl;
     no_event = refl;
     tells_nothing = refl;
   }

@@ -23,7 +23,7 @@ use Rattle.hlc_log_text.specs.declared.question_word.QuestionWord.{QuestionWord}
 use Rattle.hlc_log_text.specs.declared.log_rules.LogRules.{LogRules}
 use Rattle.hlc_log_text.specs.declared.record_syntax.RecordSyntax.{RecordSyntax}
 use Rattle.hlc_log_text.specs.declared.record_syntax.RecordSyntax.TheVariants.{Csv, JsonLines}
-use Rattle.hlc_log_text.proofs.LogFacts.{header_columns-more}
+use Rattle.hlc_log_text.proofs.HeaderFacts.{header_columns-more}
 
 -- what is told or asked names no columns
 tells_names : (r : Result NamedEvent BadLog) (columns : Columns) → tells r ≡ Ok (Names columns) → ⊥

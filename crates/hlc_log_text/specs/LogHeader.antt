@@ -2,7 +2,7 @@
 use Rattle.std.specs.Prelude.{◌≡◌, Bool, true, false, IfOk, List, ℕ, [], ◌∷◌, ◌++◌, Option, None, Some, Result, Ok, Err}
 use Rattle.hlc_csv.specs.Rows.{Fields, field_of}
 use Rattle.hlc_log.specs.Events.{IsSmallCarried}
-use Rattle.hlc_log_text.specs.LogItem.{Begins, Fails, LogItem, Tells, columns_then, header_columns, if_event, if_file, is_at_start, item_after}
+use Rattle.hlc_log_text.specs.LogItem.{Begins, Fails, LogItem, Names, Tells, columns_then, header_columns, header_item, if_event, if_file, is_at_start, item_after}
 use Rattle.hlc_log_text.specs.NamedEvent.{message_place, told_by, with_extras}
 use Rattle.hlc_log_text.specs.Question.{Asked}
 use Rattle.hlc_log_text.specs.declared.bad_log.BadLog.{BadLog}
@@ -19,6 +19,21 @@ use Rattle.hlc_log_text.specs.declared.stamp_form.StampForm.{StampForm}
 pub record IsHeaderAfter (items : List LogItem) (header : LogHeader) : Type 0 where
   pub columns : header.columns ≡ header_columns items
   pub at_start : header.at_start ≡ is_at_start items
+
+-- what names no columns and begins no file
+abbrev pub IsPassed : LogItem → Type 0
+IsPassed item = (if_file item ≡ None) × ((columns : Option Columns) → columns_then columns item ≡ columns)
+
+-- a record that says such a thing is taken in, whatever was read before
+abbrev pub PassesNext : (old new : LogHeader) → Type 0
+PassesNext old new =
+    (items : List LogItem) (item : LogItem) → IsPassed item → IsHeaderAfter items old → IsHeaderAfter (items ++ item ∷ []) new
+
+-- a header that names these columns is taken in, whatever was read before; or it is bad for this reason, and what is kept stays
+abbrev pub TakesHeader : StampForm → Columns → (old new : LogHeader) → Option BadLog → Type 0
+TakesHeader form columns old new None =
+    (header_item form columns ≡ Ok (Names columns)) × ((items : List LogItem) → IsHeaderAfter (items ++ Names columns ∷ []) new)
+TakesHeader form columns old new (Some why) = (header_item form columns ≡ Err why) × (new ≡ old)
 
 -- what a record says, or that it is bad
 abbrev pub said_item : Result LogItem BadLog → LogItem
@@ -55,9 +70,9 @@ HasSmallCarried told = IfOk told IsSmallTold
 abbrev pub HasSmallHead : Result (RecordHead × Extras) BadLog → Type 0
 HasSmallHead told = IfOk told (λ told. IsSmallCarried told.1.carried)
 
--- what changes no columns, begins no file and tells of no event
+-- what names no columns, begins no file and tells of no event
 abbrev pub IsAside : LogItem → Type 0
-IsAside item = (if_event item ≡ None) × (if_file item ≡ None) × ((columns : Option Columns) → columns_then columns item ≡ columns)
+IsAside item = (if_event item ≡ None) × IsPassed item
 
 -- why a record asks no question, if it doesn't
 abbrev pub asked_fault : Result Asked BadLog → Option BadLog

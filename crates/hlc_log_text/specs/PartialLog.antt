@@ -23,11 +23,12 @@ use Rattle.hlc_log_text.specs.declared.fault_rule.FaultRule.TheVariants.{TellEac
 use Rattle.hlc_log_text.specs.declared.log_word.LogWord.{LogWord}
 use Rattle.hlc_log_text.specs.declared.partial_log.PartialLog.{PartialLog}
 use Rattle.hlc_log_text.specs.declared.sent_marks.SentMarks.{SentMarks}
-use Rattle.hlc_log_text.specs.LogItem.{Asks, Begins, Fails, LogItem, Skips, Tells, bad_lines_in, event_lines, events_in, header_columns, is_at_start, item_after, marks_in}
+use Rattle.hlc_log_text.specs.LogItem.{Asks, Begins, Fails, LogItem, Skips, Tells, bad_lines_in, event_lines, events_in, item_after, marks_in}
 use Rattle.hlc_log_text.specs.BadRecords.{bad_records_on}
 use Rattle.hlc_log_text.specs.FaultRule.{leaves_out, leaves_sent}
 use Rattle.hlc_log_text.specs.Labels.{label_at}
 use Rattle.hlc_log_text.specs.LogDetails.{ToldDetails}
+use Rattle.hlc_log_text.specs.LogHeader.{IsHeaderAfter}
 use Rattle.hlc_log_text.specs.LogText.{IsRawTextOf, apart_count, apart_if, kind_message, kind_word, message_names, node_names, node_of, record_count, sender_of_event, unnamed_in}
 use Rattle.hlc_log_text.specs.ReadText.{ReadText}
 use Rattle.hlc_log_text.specs.Names.{with_name}
@@ -139,7 +140,7 @@ pub record IsPartialLog (items : List LogItem) (lines : List ℕ) (partial : Par
   pub ends : partial.line ≡ last_of 0 lines
   pub before : All (λ e. e.line ≤ partial.line) partial.log.events
   pub low : length items ≤ partial.line
-  pub columns : partial.columns ≡ header_columns items
+  pub header : IsHeaderAfter items partial.header
   pub last : partial.line ≤ LAST_LINE + length items
   pub senders : (place : ℕ) → label_at partial.senders place ≡ sender_of_event (events_in items) place
   pub skipped : partial.skipped ≡ skipped_in items lines
@@ -147,7 +148,6 @@ pub record IsPartialLog (items : List LogItem) (lines : List ℕ) (partial : Par
   pub sent : AreMarked partial.sent partial.log.events
   pub files : partial.files ≡ marks_in items lines
   pub marks : All (λ mark. mark.line ≤ partial.line) partial.files
-  pub at_start : partial.at_start ≡ is_at_start items
 
 -- one more record finds numbers for its names and its line, which comes after all file marks
 pub record HasPlace (partial : PartialLog) : Type 0 where

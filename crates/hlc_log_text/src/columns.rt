@@ -7,7 +7,7 @@ ghost use Rattle.hlc_log_text.specs.Columns.{begins_as_header, column_in, column
 ghost use Rattle.hlc_log_text.specs.LogColumn.{column_name};
 
 use crate::bad_column::bad_of_carried;
-use crate::extras::Extras;
+use crate::extras::{Beside, Extras};
 use crate::log_column::LogColumn;
 use crate::log_word::LogWord;
 use crate::record_syntax::RecordSyntax;
@@ -248,7 +248,7 @@ impl Columns {
     }
 
     // The field of the column `from`, if there is such a column.
-    pub(crate) fn from(self, fields: &ByteRecord) -> Option<&[u8]>
+    fn from(self, fields: &ByteRecord) -> Option<&[u8]>
         ensures { option_map (λ from. from.now) result ≡ from_in self (fields_of fields.now) }
     {
         if self.from >= self.count {
@@ -270,7 +270,7 @@ impl Columns {
     }
 
     // What a record that begins with the word of an event tells in the columns that only a header names, or the first of these that is badly written.
-    pub(crate) fn extras(
+    fn extras(
         self,
         form: StampForm,
         word: LogWord,
@@ -281,6 +281,18 @@ impl Columns {
         let carried = self.carried(form, word, fields)?;
         let seq = self.seq(fields).ok_or(LogColumn::Seq)?;
         Ok(Extras { carried, seq })
+    }
+
+    // What a record that begins with the word of an event tells beside the fields that have places in a log without a header.
+    #[inline]
+    pub(crate) fn beside(self, form: StampForm, word: LogWord, fields: &ByteRecord) -> Beside<'_>
+        ensures extras { result.extras ≡ extras_for form self word (fields_of fields.now) }
+        ensures from { option_map (λ from. from.now) result.from ≡ from_in self (fields_of fields.now) }
+    {
+        Beside {
+            extras: self.extras(form, word, fields),
+            from: self.from(fields),
+        }
     }
 
     // What a record that begins with the word of an event tells of the stamp that a message carried, or the column where that is badly written.

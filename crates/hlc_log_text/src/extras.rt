@@ -1,3 +1,4 @@
+use crate::log_column::LogColumn;
 use hlc_stamp::Stamp;
 
 /// What a record tells in columns that a log without a header doesn't have.
@@ -14,3 +15,20 @@ pub(crate) const NO_EXTRAS: Extras = Extras {
     carried: None,
     seq: 0,
 };
+
+// What a record of a log with a header tells beside the fields that have places in a log without one.
+#[derive(Clone, Copy)]
+pub(crate) struct Beside<'a> {
+    // The stamp that it tells as carried and its seq, or the column of these that is badly written.
+    pub(crate) extras: Result<Extras, LogColumn>,
+    // The field of the column `from`, if there is such a column.
+    pub(crate) from: Option<&'a [u8]>,
+}
+
+impl Beside<'static> {
+    // What a record of a log without a header tells so.
+    pub(crate) const NOTHING: Beside<'static> = Beside {
+        extras: Ok(NO_EXTRAS),
+        from: None,
+    };
+}

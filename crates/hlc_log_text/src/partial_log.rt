@@ -7,25 +7,25 @@ ghost use Rattle.csv.specs.Records.{fields_of};
 ghost use Rattle.hlc_csv.specs.Rows.{field_of};
 ghost use Rattle.hlc_log_text.specs.BadRecords.{MayBeLeftOut, bad_records_on, told_before};
 ghost use Rattle.hlc_log_text.specs.Columns.{columns_of};
-ghost use Rattle.hlc_log_text.specs.FileMarks.{begun_file};
-ghost use Rattle.hlc_log_text.specs.LogItem.{LogItem, asks, begins_as_skip, columns_after, extend, header_item, is_header, item_after, item_from, item_in, other_item, skip_item, events_in, unless_sent};
+ghost use Rattle.hlc_log_text.specs.LogItem.{LogItem, asks, columns_after, extend, header_item, item_after, item_from, item_in, other_item, skip_item, events_in, unless_sent};
 ghost use Rattle.hlc_log_text.specs.LogText.{apart_count, node_of, unnamed_in};
 ghost use Rattle.hlc_log_text.specs.LogWord.{log_word_of};
 ghost use Rattle.hlc_log_text.specs.Names.{with_name};
 ghost use Rattle.hlc_log_text.specs.NamedEvent.{if_message, if_sender, is_sent_by, sends_again_by, told_by, with_extras};
-ghost use Rattle.hlc_log_text.specs.PartialLog.{AddsNext, AsksNext, BeginsNext, HasFewNames, HasPlace, IsFinished, IsNextLine, IsPartialLog, KeepMarks, KeepsMarksBy, LeavesNext, NumbersNode, SkipsNext, TakesNext, TakesOr, TakesSaid, TellsKind, TellsLeftOut, apart_log, nodes_named, text_with, told_line};
+ghost use Rattle.hlc_log_text.specs.PartialLog.{AddsNext, AsksNext, BeginsNext, HasFewNames, HasPlace, IsFinished, IsNextLine, IsPartialLog, KeepMarks, KeepsMarksBy, LeavesNext, NumbersNode, SkipsNext, TakesNext, TakesSaid, TellsKind, TellsLeftOut, apart_log, nodes_named, text_with, told_line};
 ghost use Rattle.hlc_log_text.specs.Question.{asked_of, plain_asked};
 ghost use Rattle.hlc_log_text.specs.ReadText.{IsSoundText};
 
 use crate::bad_log::{BadLine, BadLog, BadRecord};
-use crate::columns::{Columns, begins_as_header, columns_by, names_sender};
-use crate::extras::{Extras, NO_EXTRAS};
+use crate::columns::names_sender;
+use crate::extras::{Beside, Extras};
 use crate::fault::LogTextFault;
 use crate::fault_rule::FaultRule;
-use crate::file_mark::file_name;
+use crate::file_mark::begun_file;
 use crate::files::Files;
 use crate::labels::Labels;
 use crate::log_details::LogDetails;
+use crate::log_header::LogHeader;
 use crate::log_rules::LogRules;
 use crate::log_text::LogText;
 use crate::log_word::LogWord;
@@ -35,10 +35,9 @@ use crate::name_set::NameSet;
 use crate::names::Names;
 use crate::node_names::NodeNames;
 use crate::question::LogQuestion;
-use crate::record_head::{Beside, NODE_PLACE, RecordHead, label, message_place, parse_whole};
-use crate::record_syntax::RecordSyntax;
+use crate::record_head::{NODE_PLACE, RecordHead, label, message_place, parse_whole};
 use crate::sent_marks::SentMarks;
-use crate::skipped::Skipped;
+use crate::skipped::{Skipped, begins_as_skip};
 use crate::stamp_form::StampForm;
 use csv::ByteRecord;
 use hlc_csv::{FoundRecord, field};
@@ -59,10 +58,7 @@ pub(crate) struct PartialLog {
     questions: Vec<LogQuestion>,
     pub(crate) line: u32,
     files: Files,
-    // Whether the next record is the first of the log or of a file.
-    at_start: bool,
-    // Those that the header of the log names, or that of its last file, if there is one.
-    columns: Option<Columns>,
+    header: LogHeader,
     skipped: Option<Skipped>,
     left_out: Vec<BadLine>,
     // Which messages were sent, if records that send one of these are bad.
@@ -78,24 +74,6 @@ struct RecordNames<'a> {
     // The field of the column `from`, if there is such a column.
     from: Option<&'a [u8]>,
     label: Option<&'a [u8]>,
-}
-
-// Whether a record begins with the word of those that were left out.
-pub(crate) fn begins_as_skip(fields: &ByteRecord) -> bool
-    ensures { result ≡ begins_as_skip (fields_of fields.now) }
-{
-    field(fields, 0) == b"skipped".as_slice()
-}
-
-// The name of the file that a record begins, if it begins one.
-pub(crate) fn begun_file(fields: &ByteRecord) -> Option<&[u8]>
-    ensures { option_map (λ name. name.now) result ≡ begun_file (fields_of fields.now) }
-{
-    if fields.len() == 1 {
-        file_name(field(fields, 0))
-    } else {
-        None
-    }
 }
 
 // The number of a node, unless it would be one too many.
@@ -192,8 +170,7 @@ impl PartialLog {
             questions: Vec::new(alloc),
             line: 0,
             files: Files::new(alloc),
-            at_start: true,
-            columns: None,
+            header: LogHeader::new(),
             skipped: None,
             left_out: Vec::new(alloc),
             sent: SentMarks::new(alloc, rules.leaves_sent()),
@@ -274,7 +251,7 @@ impl PartialLog {
         }
         self.left_out.push(bad)?;
         self.line = bad.line;
-        self.at_start = false;
+        self.header.pass();
         Ok(None)
     }
 
@@ -292,7 +269,7 @@ impl PartialLog {
         ensures taken { IfOk result (TakesSaid (λ items. item_after rules items (fields_of fields.now)) self.old line self.new) }
         ensures marks { KeepMarks self.old self.new }
     {
-        if self.is_header(rules.syntax, fields) {
+        if self.header.is_header(rules.syntax, fields) {
             return Ok(self.take_header(rules.form, fields, line));
         }
         let Some(word) = LogWord::parse(field(fields, 0)) else {
@@ -321,30 +298,12 @@ impl PartialLog {
             self.old line self.new) }
         ensures marks { KeepMarks self.old self.new }
     {
-        let Some(columns) = columns_by(rules.syntax, self.columns) else {
-            let beside = Beside {
-                extras: Ok(NO_EXTRAS),
-                from: None,
-            };
-            return self.take_event(rules, word, fields, beside, line);
+        let Some(columns) = self.header.columns(rules.syntax) else {
+            return self.take_event(rules, word, fields, Beside::NOTHING, line);
         };
         columns.arrange(rules.form, word, fields, arranged)?;
-        let beside = Beside {
-            extras: columns.extras(rules.form, word, fields),
-            from: columns.from(fields),
-        };
+        let beside = columns.beside(rules.form, word, fields);
         self.take_event(rules, word, arranged, beside, line)
-    }
-
-    // Whether the next record is a header: it is the first of the log or of a file, begins as one does, and wasn't written as a line of JSON lines.
-    fn is_header(&self, syntax: RecordSyntax, fields: &ByteRecord) -> bool
-        ensures { (items : List LogItem) (lines : List ℕ) → IsPartialLog items lines self.now
-            → result ≡ is_header syntax items (fields_of fields.now) }
-    {
-        match syntax {
-            RecordSyntax::Csv => self.at_start && begins_as_header(fields),
-            RecordSyntax::JsonLines => false,
-        }
     }
 
     // Takes in a header, or tells why it is bad.
@@ -353,13 +312,10 @@ impl PartialLog {
         ensures taken { TakesSaid (λ _. header_item form (columns_of (fields_of fields.now))) self.old line self.new result }
         ensures marks { KeepMarks self.old self.new }
     {
-        let columns = Columns::named(fields);
-        if !columns.are_complete(form) {
-            return Some(BadLog::Header);
+        if let Some(why) = self.header.take(form, fields) {
+            return Some(why);
         }
-        self.columns = Some(columns);
         self.line = line;
-        self.at_start = false;
         None
     }
 
@@ -445,8 +401,7 @@ impl PartialLog {
     {
         self.files.begin(name, line)?;
         self.line = line;
-        self.at_start = true;
-        self.columns = None;
+        self.header.begin_file();
         Ok(())
     }
 
@@ -473,7 +428,7 @@ impl PartialLog {
     {
         self.skipped = Some(Skipped::with(self.skipped, line));
         self.line = line;
-        self.at_start = false;
+        self.header.pass();
     }
 
     // Takes in a record that is to ask a question.
@@ -533,7 +488,7 @@ impl PartialLog {
             line,
         })?;
         self.line = line;
-        self.at_start = false;
+        self.header.pass();
         Ok(true)
     }
 
@@ -545,7 +500,7 @@ impl PartialLog {
     {
         self.questions.push(question)?;
         self.line = line;
-        self.at_start = false;
+        self.header.pass();
         Ok(())
     }
 

@@ -1,4 +1,4 @@
-ghost use Rattle.std.specs.Prelude.{◌≤◌, ℕ, List, [], Option, IfErr, IfOk, MatchResult, OnOk, length};
+ghost use Rattle.std.specs.Prelude.{◌≤◌, ℕ, List, [], Option, IfErr, IfOk, MatchResult, OnOk};
 ghost use Rattle.hlc_csv.specs.RecordReader.{HasReadTo};
 ghost use Rattle.hlc_log_text.specs.ReadLog.{ExplainsFault, IsReadInto, IsReadWhole, IsTextRead};
 ghost use Rattle.hlc_log_text.specs.PartialLog.{HasFewNames, IsPartialLog, KeepsMarksBy};

@@ -7,7 +7,7 @@ ghost use Rattle.hlc_log_text.specs.Units.{in_unit_of_l};
 use crate::bad_column::bad_of_stamp;
 use crate::bad_log::BadLog;
 use crate::columns::names_sender;
-use crate::extras::Extras;
+use crate::extras::{Beside, Extras};
 use crate::log_column::LogColumn;
 use crate::log_rules::LogRules;
 use crate::log_word::LogWord;
@@ -41,15 +41,6 @@ pub struct RecordHead {
     pub stamp: Stamp,
     /// Whether it tells that.
     pub has_stamp: bool,
-}
-
-// What a record of a log with a header tells beside the fields that have places in a log without one.
-#[derive(Clone, Copy)]
-pub(crate) struct Beside<'a> {
-    // The stamp that it tells as carried and its seq, or the column of these that is badly written.
-    pub(crate) extras: Result<Extras, LogColumn>,
-    // The field of the column `from`, if there is such a column.
-    pub(crate) from: Option<&'a [u8]>,
 }
 
 // A number of the unit of readings in the unit of `l`.

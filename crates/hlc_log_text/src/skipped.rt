@@ -1,3 +1,10 @@
+ghost use Rattle.std.specs.Prelude.{◌≡◌};
+ghost use Rattle.csv.specs.Records.{fields_of};
+ghost use Rattle.hlc_log_text.specs.LogItem.{begins_as_skip};
+
+use csv::ByteRecord;
+use hlc_csv::field;
+
 /// How many records were left out of a log, one at least.
 #[derive(Clone, Copy)]
 pub struct Skipped {
@@ -24,4 +31,11 @@ impl Skipped {
             None => Skipped { count: 1, line },
         }
     }
+}
+
+// Whether a record begins with the word of those that were left out.
+pub(crate) fn begins_as_skip(fields: &ByteRecord) -> bool
+    ensures { result ≡ begins_as_skip (fields_of fields.now) }
+{
+    field(fields, 0) == b"skipped".as_slice()
 }

@@ -22,8 +22,7 @@ returns-in_default-clause-said c =
     let fields = fields_of c.args.fields.now in
     let placed = fields_of c.swap.new.y in
     let same : placed ≡ fields = ap fields_of c.swap.ensures.y_after in
-    let none : item_in rules _ fields ≡ item_of rules fields =
-    ap (λ (columns : Option Columns). item_in rules columns fields) (sym c.columns_by.ensures ∙ c.in_default.is) in
+    let none : item_in rules c.args.columns fields ≡ item_of rules fields = ap (λ (columns : Option Columns). item_in rules columns fields) c.in_default.is in
     let word = subst (λ (fields : Fields). log_word_of (field_of fields 0) ≡ Some c.args.word) (sym same) c.requires in
     subst (λ (said : Result LogItem BadLog). IsHeadSaid rules.form placed said c.parse_whole.result)
     (plain_extended rules None placed ∙ ap (λ (fields : Fields). item_of rules fields) same ∙ sym none)
@@ -39,20 +38,22 @@ returns-clause-said c =
     let columns = c.in-Some.columns in
     let fields = fields_of c.args.fields.now in
     let placed = fields_of c.arrange.new.placed in
-    let from = option_map (λ (from : Bor (List ℕ)). from.now) c.from.result in
-    let extras = c.extras.result in
+    let from = option_map (λ (from : Bor (List ℕ)). from.now) c.beside-beside.result.from in
+    let extras = c.beside-beside.result.extras in
     let at = c.in_ok-arrange.ensures in
     let word = subst (λ (fields : Fields). log_word_of (field_of fields 0) ≡ Some c.args.word) (sym at) c.requires in
-    let some : item_in rules _ fields ≡ item_in rules (Some columns) fields =
-    ap (λ (columns : Option Columns). item_in rules columns fields) (sym c.columns_by.ensures ∙ c.in-Some.is) in
-    let all : extend extras (item_from rules from placed) ≡ _ = λ i. extend (c.extras.ensures i) (item_from rules (c.from.ensures i) (at i)) in
+    let some : item_in rules c.args.columns fields ≡ item_in rules (Some columns) fields =
+    ap (λ (columns : Option Columns). item_in rules columns fields) c.in-Some.is in
+    let all : extend extras (item_from rules from placed) ≡ _ =
+    λ i. extend (c.beside-beside.ensures.extras i) (item_from rules (c.beside-beside.ensures.from i) (at i)) in
     subst (λ (said : Result LogItem BadLog). IsHeadSaid rules.form placed said c.parse_whole-2.result)
     (all ∙ sym (in_columns rules columns c.args.word fields c.requires) ∙ sym some)
     (head_said rules c.args.word from placed extras c.parse_whole-2.result word c.parse_whole-2.ensures)
 
 pub returns-clause-small : goal.returns-clause-small
 returns-clause-small c =
-    let small = subst (λ (r : Result Extras LogColumn). AreSmallExtras r) (sym c.extras.ensures)
+    let small = subst (λ (r : Result Extras LogColumn). AreSmallExtras r) (sym c.beside-beside.ensures.extras)
     (small_extras c.args.rules.form c.in-Some.columns c.args.word (fields_of c.args.fields.now)) in
     subst HasSmallHead (sym c.parse_whole-2.ensures)
-    (small_head (head_of c.args.rules c.args.word (option_map (λ (from : Bor (List ℕ)). from.now) c.from.result) (fields_of c.arrange.new.placed)) c.extras.result small)
+    (small_head (head_of c.args.rules c.args.word (option_map (λ (from : Bor (List ℕ)). from.now) c.beside-beside.result.from) (fields_of c.arrange.new.placed))
+    c.beside-beside.result.extras small)

@@ -1,31 +1,25 @@
-use Rattle.std.proofs.Common.{◌≡◌, ◌∙◌, Bool, Err, None, Ok, Result, Some, ap, arith, cond, false, refl, subst, sym, true}
-use Rattle.std.specs.Prelude.{is_some}
+use Rattle.std.proofs.Common.{◌≡◌, ◌∙◌, Bool, Err, None, Ok, Result, ap, false, refl, subst, sym, true}
 use Rattle.csv.specs.Records.{fields_of}
 use Rattle.hlc_csv.specs.Rows.{field_of}
-use Rattle.hlc_log_text.specs.Columns.{is_complete}
-use Rattle.hlc_log_text.specs.LogHeader.{BeginsFile}
-use Rattle.hlc_log_text.specs.LogItem.{Begins, LogItem, Names, header_item, is_header, item_after, other_item}
+use Rattle.hlc_log_text.specs.Columns.{columns_of}
+use Rattle.hlc_log_text.specs.LogHeader.{BeginsFile, IsHeadSaid}
+use Rattle.hlc_log_text.specs.LogItem.{Begins, Names, is_header, item_in, other_item}
 use Rattle.hlc_log_text.specs.LogWord.{log_word_of}
 use Rattle.hlc_log_text.specs.declared.bad_log.BadLog.{BadLog}
-use Rattle.hlc_log_text.specs.declared.bad_log.BadLog.TheVariants as bad
+use Rattle.hlc_log_text.specs.declared.extras.Extras.{Extras}
 use Rattle.hlc_log_text.specs.declared.log_header.RecordItem.TheVariants.{Other}
-use Rattle.hlc_log_text.proofs.HeaderFacts.{headed, says_next}
+use Rattle.hlc_log_text.specs.declared.record_head.RecordHead.{RecordHead}
+use Rattle.hlc_log_text.proofs.HeaderFacts.{event_next, headed, says_next}
 use Rattle.hlc_log_text.proofs.TakenItems.{other_after}
 use Rattle.hlc_log_text.proofs.log_header.LogHeader.read.Goals as goal
 
-pub returns-then-is_header-clause-said : goal.returns-then-is_header-clause-said
-returns-then-is_header-clause-said c items h =
+pub returns-in-None-clause-said : goal.returns-in-None-clause-said
+returns-in-None-clause-said c items h =
     let rules = c.args.rules in
     let fields = fields_of c.args.fields.now in
-    let columns = c.named-columns.result in
     let begins : is_header rules.syntax items fields ≡ true = sym (c.is_header-is_header.ensures items h) ∙ c.if-is_header.true in
-    let is_complete : is_complete rules.form columns ≡ true = grind arith in
-    let named : header_item rules.form columns ≡ Ok (Names columns) =
-    ap (λ (test : Bool). (let r : Result LogItem BadLog = cond test (Ok (Names columns)) (Err bad.Header) in r)) is_complete in
-    let said : item_after rules items fields ≡ Ok (Names columns) =
-    headed rules items fields begins ∙ ap (header_item rules.form) (sym c.named-columns.ensures) ∙ named in
-    says_next rules items fields (fields_of c.args.placed.now) c.args.self.now (record { at_start = false; columns = Some columns }) (Ok (Names columns)) (Ok Other) h said
-    (Names columns, refl, refl) (refl, refl)
+    says_next rules items fields (fields_of c.args.placed.now) c.take.new.self (Ok (Names (columns_of fields))) (Ok Other)
+    (headed rules items fields begins ∙ c.in-None.ensures.0) (Names (columns_of fields), refl, refl) (c.in-None.ensures.1 items)
 
 pub returns-in-Ok-true-clause-said : goal.returns-in-Ok-true-clause-said
 returns-in-Ok-true-clause-said c items h =
@@ -35,8 +29,8 @@ returns-in-Ok-true-clause-said c items h =
     let none : log_word_of (field_of fields 0) ≡ None = ap log_word_of (sym c.field.ensures) ∙ sym c.parse.ensures ∙ c.in_default.is in
     let begun = subst (λ (told : Result Bool BadLog). BeginsFile (other_item fields) told)
     (c.in-Ok-true.is ∙ ap (λ (b : Bool). (let r : Result Bool BadLog = Ok b in r)) c.in-Ok-true.field-0-test) c.in_ok-begins_file.ensures in
-    says_next rules items fields (fields_of c.args.placed.now) c.args.self.now (record { at_start = true; columns = None }) (Ok (Begins begun.0)) (Ok Other) h
-    (other_after rules items fields plain none ∙ begun.1) (Begins begun.0, refl, refl) (refl, refl)
+    says_next rules items fields (fields_of c.args.placed.now) c.begin_file.new.self (Ok (Begins begun.0)) (Ok Other)
+    (other_after rules items fields plain none ∙ begun.1) (Begins begun.0, refl, refl) (c.begin_file.ensures items begun.0)
 
 pub returns-in-Ok-false-clause-said : goal.returns-in-Ok-false-clause-said
 returns-in-Ok-false-clause-said c items h =
@@ -46,6 +40,27 @@ returns-in-Ok-false-clause-said c items h =
     let none : log_word_of (field_of fields 0) ≡ None = ap log_word_of (sym c.field.ensures) ∙ sym c.parse.ensures ∙ c.in_default.is in
     let aside = subst (λ (told : Result Bool BadLog). BeginsFile (other_item fields) told)
     (c.in-Ok-false.is ∙ ap (λ (b : Bool). (let r : Result Bool BadLog = Ok b in r)) c.in-Ok-false.field-0-test) c.in_ok-begins_file.ensures in
-    says_next rules items fields (fields_of c.args.placed.now) c.args.self.now (record { at_start = false; columns = c.args.self.now.columns }) (Ok aside.0) (Ok Other) h
-    (other_after rules items fields plain none ∙ aside.1) (aside.0, refl, aside.2.0)
-    (sym (aside.2.2 c.args.self.now.columns), sym (ap is_some aside.2.1))
+    says_next rules items fields (fields_of c.args.placed.now) c.pass.new.self (Ok aside.0) (Ok Other)
+    (other_after rules items fields plain none ∙ aside.1) (aside.0, refl, aside.2.0) (c.pass.ensures items aside.0 aside.2.1 h)
+
+pub returns-in-Ok-clause-said : goal.returns-in-Ok-clause-said
+returns-in-Ok-clause-said c items h =
+    let rules = c.args.rules in
+    let fields = fields_of c.args.fields.now in
+    let placed = fields_of c.read_event.new.placed in
+    event_next rules items fields placed c.columns.result (Ok (c.in-Ok.head, c.in-Ok.extras)) c.args.self.now c.pass.new.self c.requires
+    (sym (c.is_header-is_header.ensures items h) ∙ c.if-is_header.false) (sym c.missing_by.ensures ∙ c.in_default-missing_by.is)
+    h c.pass.ensures c.columns.ensures
+    (subst (λ (told : Result (RecordHead × Extras) BadLog). IsHeadSaid rules.form placed (item_in rules c.columns.result fields) told) c.in-Ok.is
+    c.in_ok-head.ensures.said)
+
+pub returns-in-Err-2-clause-said : goal.returns-in-Err-2-clause-said
+returns-in-Err-2-clause-said c items h =
+    let rules = c.args.rules in
+    let fields = fields_of c.args.fields.now in
+    let placed = fields_of c.read_event.new.placed in
+    event_next rules items fields placed c.columns.result (Err c.in-Err-2.why) c.args.self.now c.pass.new.self c.requires
+    (sym (c.is_header-is_header.ensures items h) ∙ c.if-is_header.false) (sym c.missing_by.ensures ∙ c.in_default-missing_by.is)
+    h c.pass.ensures c.columns.ensures
+    (subst (λ (told : Result (RecordHead × Extras) BadLog). IsHeadSaid rules.form placed (item_in rules c.columns.result fields) told) c.in-Err-2.is
+    c.in_ok-head.ensures.said)

@@ -1,4 +1,4 @@
-use Rattle.std.proofs.Common.{◌≡◌, ◌∙◌, ◌<◌, Bor, false, List, ℕ, [], ◌∷◌, ◌++◌, Option, None, Some, ap, length, refl, subst, sym}
+use Rattle.std.proofs.Common.{◌≡◌, ◌∙◌, ◌<◌, Bor, List, ℕ, [], ◌∷◌, ◌++◌, Option, None, Some, ap, length, refl, subst, sym}
 use Rattle.std.specs.Prelude.{option_map}
 use Rattle.std.proofs.lemmas.Option.{get_or_from_slice_get, slice_get_within}
 use Rattle.hlc_log.specs.declared.log_event.TheConstants.{MAX_LOG_NODES}
@@ -30,12 +30,11 @@ returns-in_default-clause-added c items lines h =
       senders = old.senders;
       questions = old.questions;
       line = old.line;
-      columns = old.columns;
+      header = old.header;
       skipped = old.skipped;
       left_out = old.left_out;
       sent = old.sent;
       files = old.files;
-      at_start = old.at_start;
     } in (
       subst (λ (names : List (List ℕ)). MAX_LOG_NODES < length names) names over.0,
       subst (λ (nodes : List (List ℕ)). IsPartialLog items lines (now nodes)) (sym over.1) (record {
@@ -46,7 +45,7 @@ returns-in_default-clause-added c items lines h =
         ends = h.ends;
         before = h.before;
         low = h.low;
-        columns = h.columns;
+        header = h.header;
         last = h.last;
         senders = h.senders;
         skipped = h.skipped;
@@ -54,11 +53,10 @@ returns-in_default-clause-added c items lines h =
         sent = h.sent;
         files = h.files;
         marks = h.marks;
-        at_start = h.at_start;
       }),
     )
 
-module _ (c : goal.After-self-2-1) where
+module _ (c : goal.After-pass) where
   abbrev event : LogEvent
   event = record {
     node = c.in-Some.node;
@@ -108,12 +106,11 @@ returns-clause-added c items lines h =
       senders = c.give-2.new.self;
       questions = c.args.self.now.questions;
       line = c.args.line;
-      columns = c.args.self.now.columns;
+      header = c.pass.new.self;
       skipped = c.args.self.now.skipped;
       left_out = c.args.self.now.left_out;
       sent = c.mark.new.self;
       files = c.args.self.now.files;
-      at_start = false;
     } in
     is_reading-more items lines c.args.self.now new (named c) (event c) h record {
       pushed = c.in_ok-push.ensures.events;
@@ -129,11 +126,10 @@ returns-clause-added c items lines h =
       few_nodes = (numbered c).2;
       line = refl;
       next = c.requires.line;
-      columns = refl;
+      header = c.pass.ensures;
       skipped = refl;
       left_out = refl;
       kept = c.mark.ensures.kept;
       marks = c.in_ok-mark.ensures.marks;
       files = refl;
-      at_start = refl;
     }

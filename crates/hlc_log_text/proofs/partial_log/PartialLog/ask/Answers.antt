@@ -1,4 +1,4 @@
-use Rattle.std.proofs.Common.{false, refl}
+use Rattle.std.proofs.Common.{refl}
 use Rattle.hlc_log_text.specs.LogItem.{Asks}
 use Rattle.hlc_log_text.specs.Question.{plain_asked}
 use Rattle.hlc_log_text.specs.declared.partial_log.PartialLog.{PartialLog}
@@ -16,12 +16,11 @@ returns-clause-asked c items lines h =
       senders = old.senders;
       questions = c.push.new.self;
       line = c.args.line;
-      columns = old.columns;
+      header = c.pass.new.self;
       skipped = old.skipped;
       left_out = old.left_out;
       sent = old.sent;
       files = old.files;
-      at_start = false;
     } in
     is_aside-more items lines old new (Asks (plain_asked c.args.question)) h record {
       log = refl;
@@ -32,12 +31,11 @@ returns-clause-asked c items lines h =
       sent = refl;
       questions = asked_all items lines old new c.args.question h c.in_ok-push.ensures.items;
       next = c.requires;
-      columns = refl;
+      header = c.pass.ensures items (Asks (plain_asked c.args.question)) (refl, λ columns. refl) h.header;
       skipped = skipped_kept items lines old new c.args.question h c.args.line;
       left_out = left_out_kept items lines old new c.args.question h c.args.line;
       files = files_kept items lines old (Asks (plain_asked c.args.question)) c.args.line h refl;
       marks = marks_kept items lines old (Asks (plain_asked c.args.question)) c.args.line h c.requires;
-      at_start = refl;
       no_event = refl;
       tells_nothing = refl;
     }

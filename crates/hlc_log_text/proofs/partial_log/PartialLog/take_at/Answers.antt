@@ -15,5 +15,5 @@ returns-in_default-clause-taken c =
     let none : log_word_of (field_of fields 0) ≡ None = ap log_word_of (sym c.field.ensures) ∙ sym c.parse.ensures ∙ c.in_default.is in
     IfOk-weaker c.take_other.result _ _ (λ found takes items lines h.
     subst (λ (said : Result LogItem BadLog). TakesOr items lines said c.args.line c.take_other.new.self found)
-    (sym (other_after c.args.rules items fields (sym (c.is_header.ensures items lines h) ∙ c.if-is_header.false) none)) (takes items lines h))
+    (sym (other_after c.args.rules items fields (sym (c.is_header.ensures items h.header) ∙ c.if-is_header.false) none)) (takes items lines h))
     c.take_other.ensures.taken
