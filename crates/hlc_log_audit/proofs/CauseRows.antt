@@ -12,7 +12,7 @@ use Rattle.hlc_causes.specs.Causes.{no_causes}
 use Rattle.hlc_csv.specs.Rows.{AddsText, Fields, text_of}
 use Rattle.hlc_ordered_log.specs.InOrder.{LogInOrder}
 use Rattle.hlc_log_audit.specs.Report.{AreCausesBefore, NamesCausesAt, cause_rows_at, wrong_at, wrong_row}
-use Rattle.hlc_log_audit.proofs.RowsAdded.{adds_place, flat_map-same}
+use Rattle.hlc_log_audit.proofs.RowsOfPlaces.{adds_place, flat_map-same}
 
 -- places without rows
 pub no_rows : (rows : ℕ → List Fields) (n : ℕ) → ((k : ℕ) → k < n → rows k ≡ []) → flat_map rows (places_below n) ≡ []

@@ -12,7 +12,7 @@ pub mod OverRows
 pub mod ReorderedAnswers
 pub mod ReorderedPaths
 pub mod ReorderedTaints
-pub mod RowsAdded
+pub mod RowsOfPlaces
 pub mod SameAnswers
 pub mod SameAudits
 pub mod SameOutcomes

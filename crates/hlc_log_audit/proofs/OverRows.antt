@@ -19,7 +19,7 @@ use Rattle.hlc_log_audit.specs.Report.{AreOverRows, NamesPlaces, origin_field, o
 use Rattle.hlc_log_audit.specs.declared.over.Over.{Over}
 use Rattle.hlc_log_audit.proofs.LineFacts.{position_of_found}
 use Rattle.hlc_log_audit.proofs.OverLimits.{same_over}
-use Rattle.hlc_log_audit.proofs.RowsAdded.{flat_map-same}
+use Rattle.hlc_log_audit.proofs.RowsOfPlaces.{flat_map-same}
 use Rattle.hlc_log_audit.proofs.SameAnswers.{claimed_alike}
 
 -- the places of an answer are those of events

@@ -50,7 +50,7 @@ use Rattle.hlc_ordered_log.proofs.SkewOrder.{by_nodes_total, same_keys, same_ske
 use Rattle.hlc_ordered_log.proofs.SamePlaces.{count_list_moved, flat_moved}
 use Rattle.hlc_log_audit.specs.Answers.{drift_fields, drift_in}
 use Rattle.hlc_log_audit.proofs.SameAnswers.{line_moved, node_moved, same_drift, same_node}
-use Rattle.hlc_log_audit.proofs.RowsAdded.{flat_map-same}
+use Rattle.hlc_log_audit.proofs.RowsOfPlaces.{flat_map-same}
 use Rattle.hlc_log_audit.specs.Laws.{RearrangedReportsAgree, ReportsAgree}
 use Rattle.hlc_log_audit.specs.Report.{AreCauses, AreSkewRows, IsSkewOfEvents, NameEvents, cause_fields, cause_row, cause_rows, cause_rows_at, count_rows, events_at, message_row, factor_row, node_row, node_rows, skew_row, swapped_at, swapped_fields, unit_rows, wrong_at, wrong_row}
 use Rattle.hlc_log_audit.proofs.EventsInOrder.{names_events, same_causes, skew_of_events, wrong_exists}

@@ -2,4 +2,3 @@ pub mod GroupLaws
 pub mod GroupSteps
 pub mod GroupsSoFar
 mod Positions
-mod RowsOfGroups

@@ -17,3 +17,4 @@ pub mod TakenItems
 pub mod FileMarks
 pub mod HeaderFacts
 pub mod ListedLocations
+pub mod RowsAdded

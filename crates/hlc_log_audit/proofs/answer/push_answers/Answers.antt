@@ -4,7 +4,7 @@ use Rattle.hlc_log_text.specs.Question.{Asked, plain_asked}
 use Rattle.hlc_log_text.specs.declared.question.LogQuestion.{LogQuestion}
 use Rattle.hlc_log_audit.specs.Answers.{AreAnswers}
 use Rattle.hlc_log_audit.proofs.AnswerFacts.{answers_push}
-use Rattle.hlc_log_audit.proofs.RowsAdded.{adds_joined, adds_one}
+use Rattle.hlc_log_text.proofs.RowsAdded.{adds_joined, adds_one}
 use Rattle.hlc_log_audit.proofs.answer.push_answers.Goals as goal
 
 pub loop-question-preserved : goal.loop-question-preserved

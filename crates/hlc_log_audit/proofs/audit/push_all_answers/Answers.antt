@@ -2,7 +2,7 @@ use Rattle.std.proofs.Common.{◌++◌, map, sym}
 use Rattle.std.proofs.lemmas.Result.{on_ok_weaker}
 use Rattle.hlc_log_text.specs.Question.{plain_asked}
 use Rattle.hlc_log_audit.proofs.AnswerFacts.{answers_join}
-use Rattle.hlc_log_audit.proofs.RowsAdded.{adds_joined}
+use Rattle.hlc_log_text.proofs.RowsAdded.{adds_joined}
 use Rattle.hlc_log_audit.proofs.audit.push_all_answers.Goals as goal
 
 pub returns : goal.returns

@@ -1,7 +1,7 @@
 use Rattle.std.specs.Prelude.{codes}
 use Rattle.std.proofs.lemmas.Result.{on_ok_weaker}
 use Rattle.hlc_log_audit.specs.Audit.{taken_row}
-use Rattle.hlc_log_audit.proofs.RowsAdded.{adds_joined}
+use Rattle.hlc_log_text.proofs.RowsAdded.{adds_joined}
 use Rattle.hlc_log_audit.proofs.audit.push_all_taken.Goals as goal
 
 pub returns : goal.returns

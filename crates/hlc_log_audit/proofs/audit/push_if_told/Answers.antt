@@ -4,7 +4,7 @@ use Rattle.hlc_ordered_log.specs.Messages.{message_counts}
 use Rattle.hlc_log_text.specs.declared.question.LogQuestion.{LogQuestion}
 use Rattle.hlc_log_audit.specs.Audit.{IsReportIf, all_asked, is_reported, missing_rows, taken_rows}
 use Rattle.hlc_log_audit.specs.LeftOut.{left_out_rows}
-use Rattle.hlc_log_audit.proofs.RowsAdded.{adds_joined}
+use Rattle.hlc_log_text.proofs.RowsAdded.{adds_joined}
 use Rattle.hlc_log_audit.proofs.audit.push_if_told.Goals as goal
 
 pub push_report-requires-clause-messages : goal.push_report-requires-clause-messages

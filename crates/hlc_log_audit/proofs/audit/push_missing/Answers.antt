@@ -3,7 +3,7 @@ use Rattle.std.specs.Prelude.{OnOk, codes}
 use Rattle.std.proofs.lemmas.Result.{on_ok_weaker}
 use Rattle.hlc_csv.specs.Rows.{AddsRows, Fields}
 use Rattle.hlc_log_audit.specs.Audit.{counted_row, skipped_row}
-use Rattle.hlc_log_audit.proofs.RowsAdded.{adds_joined}
+use Rattle.hlc_log_text.proofs.RowsAdded.{adds_joined}
 use Rattle.hlc_log_audit.proofs.audit.push_missing.Goals as goal
 
 pub returns : goal.returns

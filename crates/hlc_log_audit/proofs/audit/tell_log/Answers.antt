@@ -1,7 +1,7 @@
 use Rattle.std.proofs.Common.{◌++◌, List, ℕ, refl, subst}
 use Rattle.std.proofs.lemmas.Result.{on_ok_weaker}
 use Rattle.hlc_csv.specs.Rows.{AddsText, text_of}
-use Rattle.hlc_log_audit.proofs.RowsAdded.{adds_joined, appends-from_none}
+use Rattle.hlc_log_text.proofs.RowsAdded.{adds_joined, appends-from_none}
 use Rattle.hlc_log_audit.proofs.audit.tell_log.Goals as goal
 
 pub returns : goal.returns

@@ -6,7 +6,7 @@ use Rattle.hlc_causes.specs.declared.answers.Cause.TheVariants as cause
 use Rattle.hlc_csv.specs.Rows.{AddsRows, Fields}
 use Rattle.hlc_log_audit.specs.Report.{cause_row, cause_rows_at, wrong_row}
 use Rattle.hlc_causality.specs.Neighbours.{place_of}
-use Rattle.hlc_log_audit.proofs.RowsAdded.{adds_joined}
+use Rattle.hlc_log_text.proofs.RowsAdded.{adds_joined}
 use Rattle.hlc_log_audit.proofs.causes.push_causes_of.Goals as goal
 
 pub returns : goal.returns

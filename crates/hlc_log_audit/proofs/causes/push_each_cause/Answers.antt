@@ -4,7 +4,7 @@ use Rattle.hlc_causality.specs.Places.{places_below}
 use Rattle.hlc_csv.specs.Rows.{AddsText, text_of}
 use Rattle.hlc_log_audit.specs.Report.{AreCausesBefore}
 use Rattle.hlc_log_audit.proofs.CauseRows.{adds_cause, causes_push, no_answers, row_at}
-use Rattle.hlc_log_audit.proofs.RowsAdded.{adds_none}
+use Rattle.hlc_log_text.proofs.RowsAdded.{adds_none}
 use Rattle.hlc_log_audit.proofs.causes.push_each_cause.Goals as goal
 
 pub loop-place-init : goal.loop-place-init

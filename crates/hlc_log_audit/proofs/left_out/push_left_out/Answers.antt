@@ -2,7 +2,7 @@ use Rattle.std.proofs.Common.{◌++◌}
 use Rattle.std.specs.Prelude.{codes}
 use Rattle.std.proofs.lemmas.Result.{on_ok_weaker}
 use Rattle.hlc_log_audit.specs.LeftOut.{row_of_word}
-use Rattle.hlc_log_audit.proofs.RowsAdded.{adds_joined}
+use Rattle.hlc_log_text.proofs.RowsAdded.{adds_joined}
 use Rattle.hlc_log_audit.proofs.left_out.push_left_out.Goals as goal
 
 pub returns : goal.returns

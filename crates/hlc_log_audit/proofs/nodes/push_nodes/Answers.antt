@@ -6,7 +6,7 @@ use Rattle.hlc_log_audit.specs.Report.{node_row}
 use Rattle.hlc_log_audit.specs.Tally.{no_tally}
 use Rattle.hlc_log_audit.specs.declared.tally.NodeTally.{NodeTally}
 use Rattle.hlc_log_audit.proofs.Tallies.{all_events_counted}
-use Rattle.hlc_log_audit.proofs.RowsAdded.{adds_none, adds_row_of_place}
+use Rattle.hlc_log_text.proofs.RowsAdded.{adds_none, adds_row_of_place}
 use Rattle.hlc_log_audit.proofs.nodes.push_nodes.Goals as goal
 
 pub push_node-requires-clause-events : goal.push_node-requires-clause-events

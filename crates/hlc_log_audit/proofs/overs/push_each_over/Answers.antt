@@ -5,7 +5,8 @@ use Rattle.hlc_causality.specs.Places.{places_below}
 use Rattle.hlc_csv.specs.Rows.{AddsText, text_of}
 use Rattle.hlc_log_audit.specs.Report.{over_row}
 use Rattle.hlc_log_audit.proofs.OverRows.{names_places}
-use Rattle.hlc_log_audit.proofs.RowsAdded.{adds_none, adds_place}
+use Rattle.hlc_log_text.proofs.RowsAdded.{adds_none}
+use Rattle.hlc_log_audit.proofs.RowsOfPlaces.{adds_place}
 use Rattle.hlc_log_audit.proofs.overs.push_each_over.Goals as goal
 
 pub loop-node-init : goal.loop-node-init

@@ -5,7 +5,7 @@ use Rattle.hlc_ordered_log.specs.InOrder.{LogInOrder}
 use Rattle.hlc_ordered_log.specs.Messages.{message_counts}
 use Rattle.hlc_ordered_log.specs.declared.messages.MessageCounts.{MessageCounts}
 use Rattle.hlc_log_audit.specs.Report.{cause_rows, count_rows, message_row, node_rows, skew_row, unit_rows}
-use Rattle.hlc_log_audit.proofs.RowsAdded.{adds_joined, adds_one}
+use Rattle.hlc_log_text.proofs.RowsAdded.{adds_joined, adds_one}
 use Rattle.hlc_log_audit.proofs.report.push_report.Goals as goal
 
 pub push_nodes-requires-clause-nodes : goal.push_nodes-requires-clause-nodes

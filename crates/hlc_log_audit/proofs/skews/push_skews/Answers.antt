@@ -9,7 +9,7 @@ use Rattle.hlc_ordered_log.specs.declared.skew_nodes.SkewNodes.{SkewNodes}
 use Rattle.hlc_ordered_log.proofs.SkewOrder.{by_nodes_total}
 use Rattle.hlc_log_audit.specs.Report.{IsSkewOfEvents, skew_row}
 use Rattle.hlc_log_audit.proofs.EventsInOrder.{skew_of_events}
-use Rattle.hlc_log_audit.proofs.RowsAdded.{adds_none, adds_row}
+use Rattle.hlc_log_text.proofs.RowsAdded.{adds_none, adds_row}
 use Rattle.hlc_log_audit.proofs.skews.push_skews.Goals as goal
 
 pub loop-between-init : goal.loop-between-init

@@ -1,12 +1,11 @@
 use Rattle.std.proofs.Common.{◌≡◌, ◌∙◌, ◌++◌, ◌∷◌, ℕ, [], append-nil, append_assoc, ap, flat_map, length, refl, rules, subst, sym}
 use Rattle.std.proofs.lemmas.List.Elements.{All-head, All-tail}
 use Rattle.hlc_ordered_log.specs.InOrder.{LogInOrder}
-use Rattle.hlc_log_audit.proofs.RowsAdded.{adds_none}
+use Rattle.hlc_log_text.proofs.RowsAdded.{adds_none, adds_rows}
 use Rattle.hlc_log_groups.specs.GroupRows.{group_rows}
 use Rattle.hlc_log_groups.specs.Groups.{AreGroupsOf, Groups, NameBefore, NamesBefore}
 use Rattle.hlc_log_groups.specs.declared.cause_group.CauseGroup.{CauseGroup}
 use Rattle.hlc_log_groups.specs.declared.group_key.GroupKey.{GroupKey}
-use Rattle.hlc_log_groups.proofs.RowsOfGroups.{adds_told}
 use Rattle.hlc_log_groups.proofs.group_rows.push_groups.Goals as goal
 
 pub loop-common-init : goal.loop-common-init
@@ -52,7 +51,7 @@ loop-common-preserved g c =
       told.0 ++ here ∷ [],
       subst (AreGroupsOf log.log log.full) same told.1,
       name_next (length log.log.events) c.loop-common.common-iterator next here c.in-Some.ensures.steps told.2,
-      adds_told _ _ _ _ _ _ (group_rows c.args.told log) told.0 here told.3 c.in_ok-push_told.ensures,
+      adds_rows _ _ _ _ _ _ (group_rows c.args.told log) told.0 here told.3 c.in_ok-push_told.ensures,
     )
 
 pub returns : goal.returns

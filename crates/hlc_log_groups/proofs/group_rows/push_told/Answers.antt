@@ -1,7 +1,7 @@
 use Rattle.std.proofs.Common.{[], ◌∷◌, map, subst, sym}
 use Rattle.std.proofs.lemmas.Result.{on_ok_weaker}
 use Rattle.hlc_csv.specs.Rows.{AddsText, text_of}
-use Rattle.hlc_log_audit.proofs.RowsAdded.{adds_joined, adds_one}
+use Rattle.hlc_log_text.proofs.RowsAdded.{adds_joined, adds_one}
 use Rattle.hlc_log_groups.specs.GroupRows.{first_places, group_row, group_rows, place_row}
 use Rattle.hlc_log_groups.specs.declared.group_detail.GroupDetail.{GroupDetail}
 use Rattle.hlc_log_groups.proofs.group_rows.push_told.Goals as goal

@@ -1,7 +1,7 @@
 use Rattle.std.proofs.Common.{◌≡◌, [], ℕ, List, refl, subst, sym}
 use Rattle.std.proofs.lemmas.Result.{on_ok_weaker}
 use Rattle.hlc_csv.specs.Rows.{AddsText, Fields, text_of}
-use Rattle.hlc_log_audit.proofs.RowsAdded.{appends-from_none}
+use Rattle.hlc_log_text.proofs.RowsAdded.{appends-from_none}
 use Rattle.hlc_open_log.specs.Opened.{OpenedLog}
 use Rattle.hlc_log_groups.specs.GroupRows.{AreGroupRows, AreGroupRowsIf}
 use Rattle.hlc_log_groups.specs.declared.group_detail.GroupDetail.{GroupDetail}

@@ -4,7 +4,7 @@ use Rattle.std.proofs.lemmas.Result.{on_ok_weaker}
 use Rattle.hlc_csv.specs.Rows.{AddsRows, Fields}
 use Rattle.hlc_stamp.specs.Order.{Pair}
 use Rattle.hlc_watched_log.specs.CauseRows.{ahead_row, row_of}
-use Rattle.hlc_watched_log.proofs.RowsAdded.{adds_one}
+use Rattle.hlc_log_text.proofs.RowsAdded.{adds_one}
 use Rattle.hlc_watched_log.proofs.cause_row.push_ahead.Goals as goal
 
 pub returns : goal.returns

@@ -3,7 +3,7 @@ use Rattle.std.specs.Prelude.{OnOk}
 use Rattle.std.proofs.lemmas.Result.{on_ok_weaker}
 use Rattle.hlc_csv.specs.Rows.{AddsRows, Fields, row_field_bytes}
 use Rattle.hlc_watched_log.specs.CauseRows.{behind_row, row_if}
-use Rattle.hlc_watched_log.proofs.RowsAdded.{adds_one}
+use Rattle.hlc_log_text.proofs.RowsAdded.{adds_one}
 use Rattle.hlc_watched_log.proofs.cause_row.push_behind.Goals as goal
 
 pub returns-then-behind : goal.returns-then-behind

@@ -1,6 +1,7 @@
 use Rattle.std.proofs.Common.{arith}
 use Rattle.hlc_watched_log.specs.CauseRows.{cause_rows}
-use Rattle.hlc_watched_log.proofs.RowsAdded.{adds_more, adds_none}
+use Rattle.hlc_log_text.proofs.RowsAdded.{adds_none}
+use Rattle.hlc_watched_log.proofs.RowsAdded.{adds_more}
 use Rattle.hlc_watched_log.proofs.event_rows.push_each.Goals as goal
 
 pub loop-records-init : goal.loop-records-init

@@ -10,7 +10,7 @@ use Rattle.hlc_watched_log.specs.CauseRows.{cause_rows, row_if}
 use Rattle.hlc_watched_log.specs.Summary.{claimed_ahead}
 use Rattle.hlc_watched_log.specs.Taken.{complete_in}
 use Rattle.hlc_watched_log.specs.Watched.{event_rows, is_over, over_row}
-use Rattle.hlc_watched_log.proofs.RowsAdded.{adds_joined}
+use Rattle.hlc_log_text.proofs.RowsAdded.{adds_joined}
 use Rattle.hlc_watched_log.proofs.event_rows.push_event.Goals as goal
 
 pub returns : goal.returns

@@ -1,5 +1,5 @@
 use Rattle.std.proofs.lemmas.Result.{on_ok_weaker}
-use Rattle.hlc_watched_log.proofs.RowsAdded.{appends-from_none}
+use Rattle.hlc_log_text.proofs.RowsAdded.{appends-from_none}
 use Rattle.hlc_watched_log.proofs.event_rows.write_bad.Goals as goal
 
 pub returns : goal.returns

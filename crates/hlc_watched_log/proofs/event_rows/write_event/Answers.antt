@@ -3,7 +3,8 @@ use Rattle.std.proofs.lemmas.Result.{on_ok_weaker}
 use Rattle.std.specs.Io.KnownBytes.{Appends}
 use Rattle.hlc_csv.specs.Rows.{Fields, text_of}
 use Rattle.hlc_watched_log.specs.Taken.{complete_in}
-use Rattle.hlc_watched_log.proofs.RowsAdded.{appends-from_none, appends_none}
+use Rattle.hlc_log_text.proofs.RowsAdded.{appends-from_none}
+use Rattle.hlc_watched_log.proofs.RowsAdded.{appends_none}
 use Rattle.hlc_watched_log.proofs.Told.{no_event_rows}
 use Rattle.hlc_watched_log.proofs.event_rows.write_event.Goals as goal
 

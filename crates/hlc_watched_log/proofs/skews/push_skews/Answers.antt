@@ -3,7 +3,7 @@ use Rattle.hlc_csv.specs.Rows.{AddsText, text_of}
 use Rattle.hlc_ordered_log.specs.declared.skew_nodes.SkewNodes.{SkewNodes}
 use Rattle.hlc_watched_log.specs.Skews.{ShownSkews, skew_row, skew_rows}
 use Rattle.hlc_watched_log.specs.declared.shown_skew.ShownSkew.{ShownSkew}
-use Rattle.hlc_watched_log.proofs.RowsAdded.{adds_none, adds_row}
+use Rattle.hlc_log_text.proofs.RowsAdded.{adds_none, adds_row}
 use Rattle.hlc_watched_log.proofs.skews.push_skews.Goals as goal
 
 pub loop-nodes-init : goal.loop-nodes-init

@@ -2,7 +2,7 @@ use Rattle.std.proofs.Common.{◌≡◌, [], ◌∷◌, List, codes, decimal, su
 use Rattle.std.specs.Prelude.{OnOk}
 use Rattle.hlc_csv.specs.Rows.{AddsRows, Fields}
 use Rattle.std.proofs.lemmas.Result.{on_ok_weaker}
-use Rattle.hlc_watched_log.proofs.RowsAdded.{adds_joined, adds_one}
+use Rattle.hlc_log_text.proofs.RowsAdded.{adds_joined, adds_one}
 use Rattle.hlc_watched_log.proofs.summary.push_counts.Goals as goal
 
 pub returns : goal.returns

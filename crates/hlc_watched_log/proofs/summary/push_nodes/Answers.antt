@@ -2,7 +2,7 @@ use Rattle.std.proofs.Common.{◌≡◌, ℕ, arith, length, map, subst}
 use Rattle.hlc_causality.specs.Places.{places_below}
 use Rattle.hlc_csv.specs.Rows.{AddsText, text_of}
 use Rattle.hlc_watched_log.specs.Summary.{node_row}
-use Rattle.hlc_watched_log.proofs.RowsAdded.{adds_none, adds_row_of_place}
+use Rattle.hlc_log_text.proofs.RowsAdded.{adds_none, adds_row_of_place}
 use Rattle.hlc_watched_log.proofs.summary.push_nodes.Goals as goal
 
 pub loop-node-init : goal.loop-node-init

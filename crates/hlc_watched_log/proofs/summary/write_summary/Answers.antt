@@ -2,7 +2,7 @@ use Rattle.std.proofs.Common.{◌++◌}
 use Rattle.std.proofs.lemmas.Result.{on_ok_weaker}
 use Rattle.hlc_watched_log.specs.Skews.{skew_rows}
 use Rattle.hlc_watched_log.specs.Summary.{count_rows, node_rows}
-use Rattle.hlc_watched_log.proofs.RowsAdded.{adds_joined, appends-from_none}
+use Rattle.hlc_log_text.proofs.RowsAdded.{adds_joined, appends-from_none}
 use Rattle.hlc_watched_log.proofs.summary.write_summary.Goals as goal
 
 pub returns : goal.returns
