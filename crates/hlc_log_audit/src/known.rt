@@ -1,5 +1,4 @@
 ghost use Rattle.std.specs.Prelude.{◌≡◌, OnOk, option_map};
-ghost use Rattle.std.specs.Borrow.{Bor};
 ghost use Rattle.hlc_csv.specs.Rows.{AddsRow, Fields, row_field_bytes};
 ghost use Rattle.hlc_log_audit.specs.Answers.{IfEvent, TellsEvent, event_fields, reading_field};
 ghost use Rattle.hlc_log_text.specs.Files.{line_at};

@@ -9,7 +9,7 @@ ghost use Rattle.hlc_log.specs.Faults.{IsFaultOf};
 ghost use Rattle.hlc_log.specs.Messages.{AreMessagesSound};
 ghost use Rattle.hlc_log.specs.Unsent.{unsent_count, with_unsent};
 ghost use Rattle.hlc_ordered_log.specs.InOrder.{AreOfNodes};
-ghost use Rattle.hlc_open_log.specs.Opened.{IsOpen, IsOpened, IsOpenedOf, IsOrderedOf, IsPartOf, cycle_line, opened_events, resent_apart, resent_of};
+ghost use Rattle.hlc_open_log.specs.Opened.{IsOpened, IsOpenedOf, IsOrderedOf, IsPartOf, cycle_line, opened_events, resent_apart, resent_of};
 ghost use Rattle.hlc_open_log.specs.Unopened.{ExplainsOpenFault, IsRefused, TellsDisorder, bad_event, disorder_of, message_name, order_fault_place, told_faults};
 
 use crate::bad_event::{BadEvent, Disorder};
