@@ -25,8 +25,8 @@ pub fn file_name(field: &[u8]) -> Option<&[u8]>
     if may_be_name(name) { Some(name) } else { None }
 }
 
-// The name of the file that a record begins, if it begins one.
-pub(crate) fn begun_file(fields: &ByteRecord) -> Option<&[u8]>
+/// The name of the file that a record begins, if it begins one: its only field marks it.
+pub fn begun_file(fields: &ByteRecord) -> Option<&[u8]>
     ensures { option_map (λ name. name.now) result ≡ begun_file (fields_of fields.now) }
 {
     if fields.len() == 1 {

@@ -146,7 +146,7 @@ pub use cause_word::CauseWord;
 pub use extras::Extras;
 pub use fault::LogTextFault;
 pub use fault_rule::FaultRule;
-pub use file_mark::{FileMark, file_name};
+pub use file_mark::{FileMark, begun_file, file_name};
 pub use files::Files;
 pub use hlc_log_line::MAX_NAME_LEN;
 pub use hlc_packed::PackedBits;

@@ -1,9 +1,9 @@
 -- Where no more events come than messages are kept, nothing is forgotten.
 use Rattle.std.proofs.Common.{◌≡◌, ◌≢◌, ◌∙◌, ℕ, zero, suc, ◌<◌, ◌≤◌, ◌⊎◌, true, false, List, [], ◌∷◌, ◌++◌, Option, Some, None, IsSome, length, map, Contains, arith, inl, inr, refl, sym, ap, subst}
-use Rattle.std.specs.Prelude.{if◌then◌else◌, max, nat_eq, unwrap_or}
-use Rattle.std.specs.Cmp.{nat_eq_equiv}
+use Rattle.std.specs.Prelude.{if◌then◌else◌, bytes_eq, max, unwrap_or}
+use Rattle.std.specs.Cmp.Lexicographic.{nat_list_eq_equiv}
 use Rattle.std.specs.Map.{lookup, remove_entry}
-use Rattle.std.proofs.lemmas.Bool.{cases_Bool, cases_order, eqb-true, eq-eqb, lt-ltb}
+use Rattle.std.proofs.lemmas.Bool.{cases_Bool, cases_order, lt-ltb}
 use Rattle.std.proofs.lemmas.List.Elements.{Contains-append_left, Contains-append_right, Contains-push}
 use Rattle.lru.specs.LruCache.{lru_cache, promoted, put_entries}
 use Rattle.lru.proofs.CallerLemmas.{Contains-lookup, lookup-put_entries}
@@ -16,15 +16,16 @@ use Rattle.hlc_log.specs.declared.message_id.MessageId.{MessageId}
 use Rattle.hlc_log.specs.Events.{event_at}
 use Rattle.hlc_log.specs.Messages.{EachIsSentOnce, Receives as ReceivesMessage, Sends}
 use Rattle.hlc_log.proofs.OrderSkeletons.{one_send}
+use Rattle.hlc_watch.specs.declared.message_role.MessageRole.TheVariants as role
 use Rattle.hlc_watch.specs.declared.records.Claimed.{Claimed}
 use Rattle.hlc_watch.specs.declared.records.Records.{Records}
-use Rattle.hlc_watch.specs.Coming.{NamesSender, claimed_at, last_needed, records_at, ruled_at}
+use Rattle.hlc_watch.specs.Coming.{NamesSender, TellApart, claimed_at, last_needed, records_at, ruled_at}
 use Rattle.hlc_watch.specs.Kept.{KeptMessages, received_from, receive_count, records_with, waited_for, waiting_for, with_latest, with_receive, without_last}
 use Rattle.hlc_watch.specs.Laws.{AreFewNodes, IsToldAt, TellsAll, if_any, kept_after, told_as}
-use Rattle.hlc_watch.specs.Records.{with_send}
-use Rattle.hlc_watch.specs.Watching.{KeptLog, after_event, after_kind, event_told, no_log, waited_told}
+use Rattle.hlc_watch.specs.Records.{role_of, with_send}
+use Rattle.hlc_watch.specs.Watching.{KeptLog, after_event, after_role, event_told, no_log, waited_told}
 use Rattle.hlc_watch.proofs.Bounds.{count-with_receive, count-remove}
-use Rattle.hlc_watch.proofs.Entries.{length-promoted, length-put, lookup-others, lookup-promoted, lookup-put_others}
+use Rattle.hlc_watch.proofs.Entries.{differ_by_test, is_name, same_name, length-promoted, length-put, lookup-others, lookup-promoted, lookup-put_others}
 use Rattle.hlc_watch.proofs.Knowledge.{IsKnown, known_after, own, own_is}
 
 mapped_there : {X Y : Type 0} (f : X → Y) (xs : List X) (x : X) → Contains xs x → Contains (map f xs) (f x)
@@ -33,21 +34,8 @@ mapped_there f (y ∷ xs) x (zero, within, is) = (0, omega arith, ap f is)
 mapped_there f (y ∷ xs) x (suc k, within, is) =
     let later = mapped_there f xs x (k, omega arith, is) in (suc later.0, (let less = later.1 in omega arith), later.2)
 
-differ_by_test : (m k : ℕ) → nat_eq m k ≡ false → m ≢ k
-differ_by_test m k test same = let bad : true ≡ false = sym (eq-eqb m k same) ∙ test in cc
-
-same_sent : (kind : LogKind) (m : ℕ) (message : MessageId) → kind ≡ Send (record { 0 = m }) → kind ≡ Send message → m ≡ message.0
-same_sent kind m message a b =
-    let same : Send (record { 0 = m }) ≡ Send message = sym a ∙ b in
-    let ids : ◌≡◌ {A = MessageId} (record { 0 = m }) message = cc in ap (λ (x : MessageId). x.0) ids
-
-same_received : (kind : LogKind) (m : ℕ) (message : MessageId) → kind ≡ Receive (record { 0 = m }) → kind ≡ Receive message → m ≡ message.0
-same_received kind m message a b =
-    let same : Receive (record { 0 = m }) ≡ Receive message = sym a ∙ b in
-    let ids : ◌≡◌ {A = MessageId} (record { 0 = m }) message = cc in ap (λ (x : MessageId). x.0) ids
-
 -- what waits for another message still does
-waiting_others : (awaited : List (ℕ × List Records)) (m k : ℕ) → m ≢ k → waiting_for (remove_entry (nat_eq k) awaited) m ≡ waiting_for awaited m
+waiting_others : (awaited : List (List ℕ × List Records)) (m k : List ℕ) → m ≢ k → waiting_for (remove_entry (bytes_eq k) awaited) m ≡ waiting_for awaited m
 waiting_others awaited m k differ = ap (λ (o : Option (List Records)). unwrap_or o []) (lookup-others m k differ awaited)
 
 some_of : {X : Type 0} (o : Option X) (x : X) → o ≡ Some x → IsSome o
@@ -57,15 +45,16 @@ get_some : {X : Type 0} (o : Option X) → IsSome o → (x : X) × (o ≡ Some x
 get_some None some = absurd cc
 get_some (Some x) some = (x, refl)
 
-module _ (receives : Receives) (keep : ℕ) (files : ℕ → ℕ) (events : List LogEvent) (nodes : AreFewNodes events) (once : EachIsSentOnce events) (room : length events ≤ keep) where
+module _ (receives : Receives) (keep : ℕ) (files : ℕ → ℕ) (names : ℕ → List ℕ) (events : List LogEvent) (nodes : AreFewNodes events)
+    (apart : TellApart names events) (once : EachIsSentOnce events) (room : length events ≤ keep) where
   -- nothing is forgotten of the first n events
   record IsWhole (n : ℕ) (messages : KeptMessages) : Type 0 where
     pub keep_is : messages.keep ≡ keep
     pub few_sent : length messages.sent ≤ n
     pub few_waiting : receive_count messages.awaited ≤ n
-    pub sent : (d m : ℕ) → d < n → Sends events d m → IsSome (lookup (nat_eq m) messages.sent)
+    pub sent : (d m : ℕ) → d < n → Sends events d m → IsSome (lookup (bytes_eq (names d)) messages.sent)
     pub waits : (e m : ℕ) → e < n → ReceivesMessage events e m → ((d : ℕ) → d < n → ¬ Sends events d m)
-        → Contains (waiting_for messages.awaited m) (records_at receives files events e None)
+        → Contains (waiting_for messages.awaited (names e)) (records_at receives files events e None)
 
   none_whole : IsWhole 0 (no_log keep).messages
   none_whole = record {
@@ -76,15 +65,15 @@ module _ (receives : Receives) (keep : ℕ) (files : ℕ → ℕ) (events : List
     waits = λ e m before. absurd (omega arith);
   }
 
-  module _ (n : ℕ) (exists : n < length events) (kept : KeptLog) (known : IsKnown receives files events n kept) (whole : IsWhole n kept.messages) where
+  module _ (n : ℕ) (exists : n < length events) (kept : KeptLog) (known : IsKnown receives files names events n kept) (whole : IsWhole n kept.messages) where
     abbrev messages : KeptMessages
     messages = kept.messages
 
     abbrev mine : Records
-    mine = own receives files events n exists (nodes n exists) kept known
+    mine = own receives files names events n exists (nodes n exists) kept known
 
     mine_is : mine ≡ records_at receives files events n None
-    mine_is = own_is receives files events n exists (nodes n exists) kept known
+    mine_is = own_is receives files names events n exists (nodes n exists) kept known
 
     -- before n, or at n
     earlier : (d : ℕ) → d < suc n → (d < n) ⊎ (d ≡ n)
@@ -97,17 +86,17 @@ module _ (receives : Receives) (keep : ℕ) (files : ℕ → ℕ) (events : List
     no_send_before m none d before = none d (omega arith)
 
     -- an event that sends nothing changes nothing of what was sent
-    sent_kept : ((m : ℕ) → ¬ Sends events n m) → (sent : List (ℕ × Claimed))
-        → ((m : ℕ) → IsSome (lookup (nat_eq m) messages.sent) → IsSome (lookup (nat_eq m) sent))
-        → (d m : ℕ) → d < suc n → Sends events d m → IsSome (lookup (nat_eq m) sent)
+    sent_kept : ((m : ℕ) → ¬ Sends events n m) → (sent : List (List ℕ × Claimed))
+        → ((m : List ℕ) → IsSome (lookup (bytes_eq m) messages.sent) → IsSome (lookup (bytes_eq m) sent))
+        → (d m : ℕ) → d < suc n → Sends events d m → IsSome (lookup (bytes_eq (names d)) sent)
     sent_kept sends_none sent same d m before sends = elim (earlier d before) [
-      | inl less ↦ same m (whole.sent d m less sends)
+      | inl less ↦ same (names d) (whole.sent d m less sends)
       | inr at ↦ absurd (sends_none m (subst (λ x. Sends events x m) at sends))
     ]
 
     -- one that receives nothing adds none that waits
     waits_kept : ((m : ℕ) → ¬ ReceivesMessage events n m) → (e m : ℕ) → e < suc n → ReceivesMessage events e m
-        → ((d : ℕ) → d < suc n → ¬ Sends events d m) → Contains (waiting_for messages.awaited m) (records_at receives files events e None)
+        → ((d : ℕ) → d < suc n → ¬ Sends events d m) → Contains (waiting_for messages.awaited (names e)) (records_at receives files events e None)
     waits_kept receives_none e m before received none = elim (earlier e before) [
       | inl less ↦ whole.waits e m less received (no_send_before m none)
       | inr at ↦ absurd (receives_none m (subst (λ x. ReceivesMessage events x m) at received))
@@ -130,35 +119,40 @@ module _ (receives : Receives) (keep : ℕ) (files : ℕ → ℕ) (events : List
 
     -- a send
     module _ (message : MessageId) (is : (event_at events n).kind ≡ Send message) where
-      abbrev k : ℕ
-      k = message.0
+      abbrev k : List ℕ
+      k = names n
 
-      abbrev put : List (ℕ × Claimed)
-      put = put_entries nat_eq (lru_cache messages.sent messages.keep) k (claimed_at files events n)
+      sends_now : Sends events n message.0
+      sends_now = record { exists = exists; kind = is }
 
-      sent_now : (d m : ℕ) → d < suc n → Sends events d m → IsSome (lookup (nat_eq m) put)
-      sent_now d m before sends = elim (cases_Bool (nat_eq m k)) [
+      abbrev put : List (List ℕ × Claimed)
+      put = put_entries bytes_eq (lru_cache messages.sent messages.keep) k (claimed_at files events n)
+
+      sent_now : (d m : ℕ) → d < suc n → Sends events d m → IsSome (lookup (bytes_eq (names d)) put)
+      sent_now d m before sends = elim (cases_Bool (bytes_eq (names d) k)) [
         | inl test ↦
-            some_of (lookup (nat_eq m) put) (claimed_at files events n)
-            (ap (λ (x : ℕ). lookup (nat_eq x) put) (eqb-true m k test) ∙ lookup-put_entries nat_eq (lru_cache messages.sent messages.keep) k (claimed_at files events n) nat_eq_equiv)
+            some_of (lookup (bytes_eq (names d)) put) (claimed_at files events n)
+            (ap (λ (x : List ℕ). lookup (bytes_eq x) put) (same_name (names d) k test) ∙ lookup-put_entries bytes_eq (lru_cache messages.sent messages.keep) k (claimed_at files events n) nat_list_eq_equiv)
         | inr test ↦ elim (earlier d before) [
           | inl less ↦
               let few = whole.few_sent in
               let is_keep = whole.keep_is in
               let there : length messages.sent < messages.keep = omega arith in
-              rw (lookup-put_others messages.keep k (claimed_at files events n) messages.sent m (differ_by_test m k test) there) (whole.sent d m less sends)
-          | inr at ↦ absurd (differ_by_test m k test (same_sent (event_at events n).kind m message (subst (λ x. Sends events x m) at sends).kind is))
+              rw (lookup-put_others messages.keep k (claimed_at files events n) messages.sent (names d) (differ_by_test (names d) k test) there) (whole.sent d m less sends)
+          | inr at ↦ absurd (differ_by_test (names d) k test (ap names at))
         ]
       ]
 
       waits_now : (e m : ℕ) → e < suc n → ReceivesMessage events e m → ((d : ℕ) → d < suc n → ¬ Sends events d m)
-          → Contains (waiting_for (remove_entry (nat_eq k) messages.awaited) m) (records_at receives files events e None)
+          → Contains (waiting_for (remove_entry (bytes_eq k) messages.awaited) (names e)) (records_at receives files events e None)
       waits_now e m before received none =
-          let differ : m ≢ k = λ same. none n (omega arith) (record { exists = exists; kind = is ∙ ap (λ (x : ℕ). Send (record { 0 = x })) (sym same) }) in
-          subst (λ ws. Contains ws (records_at receives files events e None)) (sym (waiting_others messages.awaited m k differ))
+          let differ : names e ≢ k = λ same.
+          let m_is : m ≡ message.0 = (apart e n m message.0 (inr received) (inl sends_now)).0 same in
+          none n (omega arith) (subst (λ x. Sends events n x) (sym m_is) sends_now) in
+          subst (λ ws. Contains ws (records_at receives files events e None)) (sym (waiting_others messages.awaited (names e) k differ))
           (waits_kept (no_receive_if (Send message) is (λ x same. cc)) e m before received none)
 
-      whole_send : IsWhole (suc n) (after_kind messages mine (Send message))
+      whole_send : IsWhole (suc n) (after_role messages mine role.Send k)
       whole_send = record {
         keep_is = whole.keep_is;
         few_sent = let few = whole.few_sent in let more = length-put messages.keep k (claimed_at files events n) messages.sent in omega arith;
@@ -169,42 +163,43 @@ module _ (receives : Receives) (keep : ℕ) (files : ℕ → ℕ) (events : List
 
     -- a receive
     module _ (message : MessageId) (is : (event_at events n).kind ≡ Receive message) where
-      abbrev r : ℕ
-      r = message.0
+      abbrev r : List ℕ
+      r = names n
 
       no_send : (m : ℕ) → ¬ Sends events n m
       no_send = no_send_if (Receive message) is (λ x same. cc)
 
-      received_whole : (c : Claimed) → lookup (nat_eq r) messages.sent ≡ Some c → IsWhole (suc n) (received_from messages r mine (Some c))
+      received_whole : (c : Claimed) → lookup (bytes_eq r) messages.sent ≡ Some c → IsWhole (suc n) (received_from messages r mine (Some c))
       received_whole c found = record {
         keep_is = whole.keep_is;
         few_sent = let few = whole.few_sent in let less = length-promoted r messages.sent in omega arith;
         few_waiting = let few = whole.few_waiting in omega arith;
-        sent = sent_kept no_send (promoted (nat_eq r) messages.sent) (lookup-promoted r messages.sent);
+        sent = sent_kept no_send (promoted (bytes_eq r) messages.sent) (lookup-promoted r messages.sent);
         waits = λ e m before received none. elim (earlier e before) [
           | inl less ↦ whole.waits e m less received (no_send_before m none)
           | inr at ↦
-              let entry = Contains-lookup (nat_eq r) messages.sent c found in
-              let (d, sent_before, sends, c_is) = known.sent (entry.0, c) entry.1 in
-              let key : entry.0 ≡ r = sym (eqb-true r entry.0 entry.2) in
-              let m_is : m ≡ r = same_received (event_at events n).kind m message (subst (λ x. ReceivesMessage events x m) at received).kind is in
-              absurd (none d (omega arith) (subst (λ x. Sends events d x) (key ∙ sym m_is) sends))
+              let entry = Contains-lookup (bytes_eq r) messages.sent c found in
+              let sent = known.sent (entry.0, c) entry.1 in
+              let sent_before = sent.before in
+              let name : names sent.place ≡ names e = sym (ap names at ∙ same_name r entry.0 entry.2 ∙ sent.name) in
+              let key : sent.message ≡ m = (apart sent.place e sent.message m (inl sent.sends) (inr received)).0 name in
+              absurd (none sent.place (omega arith) (subst (λ x. Sends events sent.place x) key sent.sends))
         ];
       }
 
       more_waits : (e m : ℕ) → e < suc n → ReceivesMessage events e m → ((d : ℕ) → d < suc n → ¬ Sends events d m)
-          → Contains (waiting_for (with_receive messages.awaited r mine) m) (records_at receives files events e None)
-      more_waits e m before received none = elim (cases_Bool (nat_eq m r)) [
+          → Contains (waiting_for (with_receive messages.awaited r mine) (names e)) (records_at receives files events e None)
+      more_waits e m before received none = elim (cases_Bool (bytes_eq (names e) r)) [
         | inr test ↦
-            let differ = differ_by_test m r test in
-            rw test (subst (λ ws. Contains ws (records_at receives files events e None)) (sym (waiting_others messages.awaited m r differ)) (elim (earlier e before) [
+            let differ = differ_by_test (names e) r test in
+            rw test (subst (λ ws. Contains ws (records_at receives files events e None)) (sym (waiting_others messages.awaited (names e) r differ)) (elim (earlier e before) [
               | inl less ↦ whole.waits e m less received (no_send_before m none)
-              | inr at ↦ absurd (differ (same_received (event_at events n).kind m message (subst (λ x. ReceivesMessage events x m) at received).kind is))
+              | inr at ↦ absurd (differ (ap names at))
             ]))
         | inl test ↦ rw test (elim (earlier e before) [
           | inl less ↦
               Contains-append_left (waiting_for messages.awaited r) (mine ∷ []) (records_at receives files events e None)
-              (subst (λ x. Contains (waiting_for messages.awaited x) (records_at receives files events e None)) (eqb-true m r test)
+              (subst (λ x. Contains (waiting_for messages.awaited x) (records_at receives files events e None)) (same_name (names e) r test)
               (whole.waits e m less received (no_send_before m none)))
           | inr at ↦
               subst (λ w. Contains (waiting_for messages.awaited r ++ mine ∷ []) w) (mine_is ∙ ap (λ (x : ℕ). records_at receives files events x None) (sym at))
@@ -226,80 +221,88 @@ module _ (receives : Receives) (keep : ℕ) (files : ℕ → ℕ) (events : List
             few_waiting = let more = ap (λ ws. receive_count ws) latest in let count = count-with_receive messages.awaited r mine in omega arith;
             sent = sent_kept no_send messages.sent (λ m some. some);
             waits = λ e m before received none.
-                subst (λ ws. Contains (waiting_for ws m) (records_at receives files events e None)) (sym latest) (more_waits e m before received none);
+                subst (λ ws. Contains (waiting_for ws (names e)) (records_at receives files events e None)) (sym latest) (more_waits e m before received none);
           }
 
-      whole_by : (o : Option Claimed) → lookup (nat_eq r) messages.sent ≡ o → IsWhole (suc n) (received_from messages r mine o)
+      whole_by : (o : Option Claimed) → lookup (bytes_eq r) messages.sent ≡ o → IsWhole (suc n) (received_from messages r mine o)
       whole_by None found = wait_whole
       whole_by (Some c) found = received_whole c found
 
-    whole_by_kind : (kind : LogKind) → (event_at events n).kind ≡ kind → IsWhole (suc n) (after_kind messages mine kind)
+    whole_by_kind : (kind : LogKind) → (event_at events n).kind ≡ kind → IsWhole (suc n) (after_role messages mine (role_of kind) (names n))
     whole_by_kind Local is = nothing_more (no_send_if Local is (λ x same. cc)) (no_receive_if Local is (λ x same. cc))
     whole_by_kind Restart is = nothing_more (no_send_if Restart is (λ x same. cc)) (no_receive_if Restart is (λ x same. cc))
     whole_by_kind Outside is = nothing_more (no_send_if Outside is (λ x same. cc)) (no_receive_if Outside is (λ x same. cc))
     whole_by_kind (Send message) is = whole_send message is
-    whole_by_kind (Receive message) is = whole_by message is (lookup (nat_eq message.0) messages.sent) refl
+    whole_by_kind (Receive message) is = whole_by message is (lookup (bytes_eq (names n)) messages.sent) refl
 
-    whole_next : IsWhole (suc n) (after_event kept (ruled_at receives files events n)).messages
+    whole_next : IsWhole (suc n) (after_event kept (ruled_at receives files events n) (names n)).messages
     whole_next = whole_by_kind (event_at events n).kind refl
 
     -- what is told
     abbrev Tells : LogKind → Records → Type 0
-    Tells kind records = Contains (if_any (event_told messages mine kind) ++ waited_told messages mine kind) records
+    Tells kind records =
+        Contains (if_any (event_told messages mine (role_of kind) (names n)) ++ waited_told messages mine (role_of kind) (names n)) records
 
     told_now : (kind : LogKind) → ((message : MessageId) → kind ≢ Receive message) → Tells kind (records_at receives files events n None)
     told_now Local other = subst (λ w. Tells Local w) mine_is (Contains-head mine [])
     told_now Restart other = subst (λ w. Tells Restart w) mine_is (Contains-head mine [])
     told_now Outside other = subst (λ w. Tells Outside w) mine_is (Contains-head mine [])
-    told_now (Send message) other = subst (λ w. Tells (Send message) w) mine_is (Contains-head mine (waited_told messages mine (Send message)))
+    told_now (Send message) other = subst (λ w. Tells (Send message) w) mine_is (Contains-head mine (waited_told messages mine role.Send (names n)))
     told_now (Receive message) other = absurd (other message refl)
 
-    tells_received : (m d : ℕ) → d < n → Sends events d m → (o : Option Claimed) → lookup (nat_eq m) messages.sent ≡ o → IsSome o
+    tells_received : (m d : ℕ) → d < n → Sends events d m → ReceivesMessage events n m → (o : Option Claimed)
+        → lookup (bytes_eq (names n)) messages.sent ≡ o → IsSome o
         → Contains (if_any (records_with mine o) ++ []) (records_at receives files events n (Some d))
-    tells_received m d before sends None found some = absurd cc
-    tells_received m d before sends (Some c) found some =
-        let entry = Contains-lookup (nat_eq m) messages.sent c found in
-        let (other, other_before, other_sends, c_is) = known.sent (entry.0, c) entry.1 in
-        let key : entry.0 ≡ m = sym (eqb-true m entry.0 entry.2) in
-        let same : other ≡ d = one_send events once other d m (subst (λ x. Sends events other x) key other_sends) sends in
+    tells_received m d before sends received None found some = absurd cc
+    tells_received m d before sends received (Some c) found some =
+        let entry = Contains-lookup (bytes_eq (names n)) messages.sent c found in
+        let sent = known.sent (entry.0, c) entry.1 in
+        let name : names sent.place ≡ names n = sym (same_name (names n) entry.0 entry.2 ∙ sent.name) in
+        let key : sent.message ≡ m = (apart sent.place n sent.message m (inl sent.sends) (inr received)).0 name in
+        let same : sent.place ≡ d = one_send events once sent.place d m (subst (λ x. Sends events sent.place x) key sent.sends) sends in
         let told : with_send c mine ≡ records_at receives files events n (Some d) =
-        ap (with_send c) mine_is ∙ ap (λ (x : Claimed). with_send x (records_at receives files events n None)) (c_is ∙ ap (claimed_at files events) same) in
+        ap (with_send c) mine_is ∙ ap (λ (x : Claimed). with_send x (records_at receives files events n None)) (sent.claims ∙ ap (claimed_at files events) same) in
         subst (λ w. Contains (with_send c mine ∷ []) w) told (Contains-head (with_send c mine) [])
 
     told_received : (m d : ℕ) → d < n → Sends events d m → ReceivesMessage events n m
-        → Contains (told_as kept (ruled_at receives files events n)) (records_at receives files events n (Some d))
+        → Contains (told_as kept (ruled_at receives files events n) (names n)) (records_at receives files events n (Some d))
     told_received m d before sends received =
+        let name : names d ≡ names n = (apart d n m m (inl sends) (inr received)).1 refl in
+        let some : IsSome (lookup (bytes_eq (names n)) messages.sent) =
+        subst (λ x. IsSome (lookup (bytes_eq x) messages.sent)) name (whole.sent d m before sends) in
         subst (λ kind. Tells kind (records_at receives files events n (Some d))) (sym received.kind)
-        (tells_received m d before sends (lookup (nat_eq m) messages.sent) refl (whole.sent d m before sends))
+        (tells_received m d before sends received (lookup (bytes_eq (names n)) messages.sent) refl some)
 
     told_waited : (e m : ℕ) → e < n → Sends events n m → ReceivesMessage events e m
-        → Contains (told_as kept (ruled_at receives files events n)) (records_at receives files events e (Some n))
+        → Contains (told_as kept (ruled_at receives files events n) (names n)) (records_at receives files events e (Some n))
     told_waited e m before sends received =
+        let name : names e ≡ names n = (apart e n m m (inr received) (inl sends)).1 refl in
         let none : (d : ℕ) → d < n → ¬ Sends events d m = λ d less other. (let same = one_send events once d n m other sends in omega arith) in
         subst (λ kind. Tells kind (records_at receives files events e (Some n))) (sym sends.kind)
-        (Contains-append_right (mine ∷ []) (waited_for messages m (claimed_at files events n)) (records_at receives files events e (Some n))
-        (mapped_there (with_send (claimed_at files events n)) (waiting_for messages.awaited m) (records_at receives files events e None) (whole.waits e m before received none)))
+        (Contains-append_right (mine ∷ []) (waited_for messages (names n) (claimed_at files events n)) (records_at receives files events e (Some n))
+        (mapped_there (with_send (claimed_at files events n)) (waiting_for messages.awaited (names n)) (records_at receives files events e None)
+        (subst (λ x. Contains (waiting_for messages.awaited x) (records_at receives files events e None)) name (whole.waits e m before received none))))
 
-  whole_after : (n : ℕ) → n ≤ length events → IsWhole n (kept_after receives keep files events n).messages
+  whole_after : (n : ℕ) → n ≤ length events → IsWhole n (kept_after receives keep files names events n).messages
   whole_after zero within = none_whole
   whole_after (suc n) within =
-      whole_next n (omega arith) (kept_after receives keep files events n) (known_after receives files events keep nodes n (omega arith)) (whole_after n (omega arith))
+      whole_next n (omega arith) (kept_after receives keep files names events n) (known_after receives files names events keep nodes n (omega arith)) (whole_after n (omega arith))
 
   module _ (n : ℕ) (exists : n < length events) where
     abbrev before_n : KeptLog
-    before_n = kept_after receives keep files events n
+    before_n = kept_after receives keep files names events n
 
-    known_n : IsKnown receives files events n before_n
-    known_n = known_after receives files events keep nodes n (omega arith)
+    known_n : IsKnown receives files names events n before_n
+    known_n = known_after receives files names events keep nodes n (omega arith)
 
     whole_n : IsWhole n before_n.messages
     whole_n = whole_after n (omega arith)
 
   all_told : (e : ℕ) (send : Option ℕ) → e < length events → NamesSender events e send
-      → IsToldAt receives keep files events (last_needed e send) (records_at receives files events e send)
-  all_told e None exists names =
+      → IsToldAt receives keep files names events (last_needed e send) (records_at receives files events e send)
+  all_told e None exists sender =
       told_now e exists (before_n e exists) (known_n e exists) (whole_n e exists) (event_at events e).kind
-      (λ message is. names message.0 (record { exists = exists; kind = is }))
+      (λ message is. sender message.0 (record { exists = exists; kind = is }))
   all_told e (Some d) exists (m, sends, received) = elim (cases_order d e) [
     | inl same ↦
         let both : Send (record { 0 = m }) ≡ Receive (record { 0 = m }) = sym sends.kind ∙ ap (λ (x : ℕ). (event_at events x).kind) same ∙ received.kind in
@@ -307,14 +310,15 @@ module _ (receives : Receives) (keep : ℕ) (files : ℕ → ℕ) (events : List
     | inr differ ↦ elim differ [
       | inl less ↦
           let at : e ≡ max e d = omega arith in
-          subst (λ n. IsToldAt receives keep files events n (records_at receives files events e (Some d))) at
+          subst (λ n. IsToldAt receives keep files names events n (records_at receives files events e (Some d))) at
           (told_received e exists (before_n e exists) (known_n e exists) (whole_n e exists) m d less sends received)
       | inr more ↦
           let at : d ≡ max e d = omega arith in
-          subst (λ n. IsToldAt receives keep files events n (records_at receives files events e (Some d))) at
+          subst (λ n. IsToldAt receives keep files names events n (records_at receives files events e (Some d))) at
           (told_waited d sends.exists (before_n d sends.exists) (known_n d sends.exists) (whole_n d sends.exists) e m more sends received)
     ]
   ]
 
 pub tells_all : TellsAll
-tells_all receives keep files events e send nodes once room exists names = all_told receives keep files events nodes once room e send exists names
+tells_all receives keep files names events e send nodes apart once room exists sender =
+    all_told receives keep files names events nodes apart once room e send exists sender

@@ -1,5 +1,5 @@
 -- The events of a log as they come: their places are in the order of its lines.
-use Rattle.std.specs.Prelude.{◌≡◌, ◌≢◌, ◌==◌, ◌<◌, ◌≤◌, ℕ, zero, suc, List, Option, Some, None, if◌then◌else◌, length, map, max, option_map}
+use Rattle.std.specs.Prelude.{◌≡◌, ◌≢◌, ◌⊎◌, ◌↔◌, ◌==◌, ◌<◌, ◌≤◌, ℕ, zero, suc, List, Option, Some, None, if◌then◌else◌, length, map, max, option_map}
 use Rattle.hlc_stamp.specs.Order.{Pair}
 use Rattle.hlc_causality.specs.declared.receives.Receives.{Receives}
 use Rattle.hlc_causality.specs.ClockEvents.{ClockEvents}
@@ -9,7 +9,7 @@ use Rattle.hlc_causes.specs.Seen.{seen_at}
 use Rattle.hlc_log.specs.declared.log_event.LogEvent.{LogEvent}
 use Rattle.hlc_log.specs.CausalOrder.{place_at}
 use Rattle.hlc_log.specs.Events.{event_at}
-use Rattle.hlc_log.specs.Messages.{Receives as ReceivesMessage, SendsTo}
+use Rattle.hlc_log.specs.Messages.{Receives as ReceivesMessage, Sends, SendsTo}
 use Rattle.hlc_log.specs.OrderSkeleton.{rules_in, skeleton_in}
 use Rattle.hlc_log.specs.Standing.{seq_at}
 use Rattle.hlc_watch.specs.declared.file_line.FileLine.{FileLine}
@@ -46,6 +46,14 @@ previous_at events e = latest_of events (event_at events e).node.0 e
 abbrev pub NamesSender : List LogEvent → ℕ → Option ℕ → Type 0
 NamesSender events e None = (m : ℕ) → ¬ ReceivesMessage events e m
 NamesSender events e (Some d) = SendsTo events d e
+
+-- an event has this message
+abbrev pub HasMessage : List LogEvent → ℕ → (m : ℕ) → Type 0
+HasMessage events e m = Sends events e m ⊎ ReceivesMessage events e m
+
+-- the names that events come with tell their messages apart: those of one message have one name, and those of others another
+abbrev pub TellApart : (names : ℕ → List ℕ) → List LogEvent → Type 0
+TellApart names events = (d e m k : ℕ) → HasMessage events d m → HasMessage events e k → (names d ≡ names e) ↔ (m ≡ k)
 
 -- the records of e, that of the event before it at its node, and that of its send
 abbrev pub records_at : Receives → (files : ℕ → ℕ) → List LogEvent → ℕ → (send : Option ℕ) → Records

@@ -9,15 +9,16 @@ use Rattle.hlc_log.specs.Events.{event_at}
 use Rattle.hlc_log.specs.Messages.{EachIsSentOnce}
 use Rattle.hlc_watch.specs.declared.records.Records.{Records}
 use Rattle.hlc_watch.specs.declared.ruled_event.RuledEvent.{RuledEvent}
-use Rattle.hlc_watch.specs.Coming.{LinesDiffer, NamesSender, NodesStandAsTheyCome, by_lines, clocks_in, last_needed, records_at, ruled_at, seen_in}
+use Rattle.hlc_watch.specs.Coming.{LinesDiffer, NamesSender, NodesStandAsTheyCome, TellApart, by_lines, clocks_in, last_needed, records_at, ruled_at, seen_in}
 use Rattle.hlc_watch.specs.Kept.{receive_count}
 use Rattle.hlc_watch.specs.Records.{line_causes}
 use Rattle.hlc_watch.specs.Watching.{KeptLog, after_event, event_of, no_log, waited_of}
 
--- what is kept once the first n events have come
-abbrev pub kept_after : Receives → (keep : ℕ) → (files : ℕ → ℕ) → List LogEvent → ℕ → KeptLog
-kept_after receives keep files events zero = no_log keep
-kept_after receives keep files events (suc n) = after_event (kept_after receives keep files events n) (ruled_at receives files events n)
+-- what is kept once the first n events have come, which have messages of these names
+abbrev pub kept_after : Receives → (keep : ℕ) → (files : ℕ → ℕ) → (names : ℕ → List ℕ) → List LogEvent → ℕ → KeptLog
+kept_after receives keep files names events zero = no_log keep
+kept_after receives keep files names events (suc n) =
+    after_event (kept_after receives keep files names events n) (ruled_at receives files events n) (names n)
 
 -- an answer as a list
 abbrev pub if_any : Option Records → List Records
@@ -25,12 +26,13 @@ if_any None = []
 if_any (Some records) = records ∷ []
 
 -- the records that are told as an event comes
-abbrev pub told_as : KeptLog → RuledEvent → List Records
-told_as kept event = if_any (event_of kept event) ++ waited_of kept event
+abbrev pub told_as : KeptLog → RuledEvent → (m : List ℕ) → List Records
+told_as kept event m = if_any (event_of kept event m) ++ waited_of kept event m
 
 -- records are told as the event at n comes
-abbrev pub IsToldAt : Receives → (keep : ℕ) → (files : ℕ → ℕ) → List LogEvent → ℕ → Records → Type 0
-IsToldAt receives keep files events n records = Contains (told_as (kept_after receives keep files events n) (ruled_at receives files events n)) records
+abbrev pub IsToldAt : Receives → (keep : ℕ) → (files : ℕ → ℕ) → (names : ℕ → List ℕ) → List LogEvent → ℕ → Records → Type 0
+IsToldAt receives keep files names events n records =
+    Contains (told_as (kept_after receives keep files names events n) (ruled_at receives files events n) (names n)) records
 
 -- the nodes are as few as are kept
 abbrev pub AreFewNodes : List LogEvent → Type 0
@@ -46,25 +48,28 @@ pub record AreRecordsOf (receives : Receives) (files : ℕ → ℕ) (events : Li
 
 -- whatever is forgotten, only records of events are told, and as soon as the last of the three has come
 abbrev pub TellsRecords : Type 0
-TellsRecords = (receives : Receives) (keep : ℕ) (files : ℕ → ℕ) (events : List LogEvent) (n : ℕ) (records : Records) → AreFewNodes events → n < length events →
-    IsToldAt receives keep files events n records → AreRecordsOf receives files events n records
+TellsRecords = (receives : Receives) (keep : ℕ) (files : ℕ → ℕ) (names : ℕ → List ℕ) (events : List LogEvent) (n : ℕ) (records : Records) →
+    AreFewNodes events → TellApart names events → n < length events →
+    IsToldAt receives keep files names events n records → AreRecordsOf receives files events n records
 
 -- where no more events come than messages are kept, each event's are told, but of a receive that nobody sends
 abbrev pub TellsAll : Type 0
-TellsAll = (receives : Receives) (keep : ℕ) (files : ℕ → ℕ) (events : List LogEvent) (e : ℕ) (send : Option ℕ) → AreFewNodes events → EachIsSentOnce events →
-    length events ≤ keep → e < length events → NamesSender events e send → IsToldAt receives keep files events (last_needed e send) (records_at receives files events e send)
+TellsAll = (receives : Receives) (keep : ℕ) (files : ℕ → ℕ) (names : ℕ → List ℕ) (events : List LogEvent) (e : ℕ) (send : Option ℕ) →
+    AreFewNodes events → TellApart names events → EachIsSentOnce events → length events ≤ keep → e < length events → NamesSender events e send →
+    IsToldAt receives keep files names events (last_needed e send) (records_at receives files events e send)
 
 -- how many records are told as the first n events come
-abbrev pub told_count : Receives → (keep : ℕ) → (files : ℕ → ℕ) → List LogEvent → ℕ → ℕ
-told_count receives keep files events zero = 0
-told_count receives keep files events (suc n) =
-    told_count receives keep files events n + length (told_as (kept_after receives keep files events n) (ruled_at receives files events n))
+abbrev pub told_count : Receives → (keep : ℕ) → (files : ℕ → ℕ) → (names : ℕ → List ℕ) → List LogEvent → ℕ → ℕ
+told_count receives keep files names events zero = 0
+told_count receives keep files names events (suc n) =
+    told_count receives keep files names events n
+    + length (told_as (kept_after receives keep files names events n) (ruled_at receives files events n) (names n))
 
 -- each event that came is told, or waits, or is forgotten
 abbrev pub EachIsCounted : Type 0
-EachIsCounted = (receives : Receives) (keep : ℕ) (files : ℕ → ℕ) (events : List LogEvent) (n : ℕ) → n < 2 ^ 64 →
-    let messages = (kept_after receives keep files events n).messages in
-    told_count receives keep files events n + (receive_count messages.awaited + messages.forgotten) ≡ n
+EachIsCounted = (receives : Receives) (keep : ℕ) (files : ℕ → ℕ) (names : ℕ → List ℕ) (events : List LogEvent) (n : ℕ) → n < 2 ^ 64 →
+    let messages = (kept_after receives keep files names events n).messages in
+    told_count receives keep files names events n + (receive_count messages.awaited + messages.forgotten) ≡ n
 
 -- however many events come, the memory is bounded
 pub record IsSmall (keep : ℕ) (kept : KeptLog) : Type 0 where
@@ -73,8 +78,8 @@ pub record IsSmall (keep : ℕ) (kept : KeptLog) : Type 0 where
   pub waiting : receive_count kept.messages.awaited ≤ keep
 
 abbrev pub StaysSmall : Type 0
-StaysSmall = (receives : Receives) (keep : ℕ) (files : ℕ → ℕ) (events : List LogEvent) (n : ℕ) → 0 < keep → keep < 2 ^ 32 →
-    IsSmall keep (kept_after receives keep files events n)
+StaysSmall = (receives : Receives) (keep : ℕ) (files : ℕ → ℕ) (names : ℕ → List ℕ) (events : List LogEvent) (n : ℕ) → 0 < keep → keep < 2 ^ 32 →
+    IsSmall keep (kept_after receives keep files names events n)
 
 -- causes are local: in whatever causal order, the rules that an event breaks are those which its three records tell
 abbrev pub RecordsTellCauses : Type 0

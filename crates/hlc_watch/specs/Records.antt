@@ -10,9 +10,11 @@ use Rattle.hlc_causes.specs.declared.local.LocalEvent.{LocalEvent}
 use Rattle.hlc_causes.specs.Local.{local_causes}
 use Rattle.hlc_log.specs.declared.log_event.LogEvent.{LogEvent}
 use Rattle.hlc_log.specs.declared.log_event.LogKind.{LogKind}
-use Rattle.hlc_log.specs.declared.log_event.LogKind.TheVariants.{Receive}
+use Rattle.hlc_log.specs.declared.log_event.LogKind.TheVariants as kind
 use Rattle.hlc_log.specs.Events.{own_rule}
 use Rattle.hlc_watch.specs.declared.file_line.FileLine.{FileLine}
+use Rattle.hlc_watch.specs.declared.message_role.MessageRole.{MessageRole}
+use Rattle.hlc_watch.specs.declared.message_role.MessageRole.TheVariants as role
 use Rattle.hlc_watch.specs.declared.records.Claimed.{Claimed}
 use Rattle.hlc_watch.specs.declared.records.LineCauses.{LineCauses}
 use Rattle.hlc_watch.specs.declared.records.Records.{Records}
@@ -20,8 +22,14 @@ use Rattle.hlc_watch.specs.declared.ruled_event.RuledEvent.{RuledEvent}
 
 -- that it receives something, by the number of the message
 abbrev pub received : LogKind → Option ℕ
-received (Receive message) = Some message.0
+received (kind.Receive message) = Some message.0
 received _ = None
+
+-- what it does with its message
+abbrev pub role_of : LogKind → MessageRole
+role_of (kind.Send message) = role.Send
+role_of (kind.Receive message) = role.Receive
+role_of _ = role.Local
 
 -- an event among clocks that do this at receives: it has a rule of its own, or that of such clocks
 abbrev pub clock_event_by : Receives → LogEvent → ClockEvent
@@ -44,7 +52,7 @@ ruled_by receives file event =
       line = record { file = file; number = event.line };
       reading = told_reading event;
       rule = rule_by receives event;
-      kind = event.kind;
+      role = role_of event.kind;
       stamp = event.stamp;
       carried = event.carried;
     }

@@ -1,29 +1,31 @@
 // Receives whose sends haven't come.
 
-ghost use Rattle.std.specs.Prelude.{◌≡◌, ◌+◌, ◌-◌, ◌^◌, ◌<◌, [], ◌∷◌, ◌++◌, IfOk, IsSome, OnErr, OnOk, length, nat_eq, option_map, take};
+ghost use Rattle.std.specs.Prelude.{◌≡◌, ◌+◌, ◌-◌, ◌^◌, ◌<◌, [], ◌∷◌, ◌++◌, IfOk, IsSome, OnErr, OnOk, bytes_eq, is_some, length, option_map, take};
 ghost use Rattle.std.specs.Map.{lookup, remove_entry, set_value};
 ghost use Rattle.hlc_watch.specs.Kept.{receive_count, waiting_for, with_receive};
 ghost use Rattle.hlc_watch.specs.Lists.{lists_of};
 
 use crate::records::Records;
+use hlc_pages::Bytes;
 use lru::LruCache;
 use std::alloc::{AllocError, Global};
+use std::hash::BuildHasher;
 use std::marker::Model;
 
-// Records of receives that wait, by the numbers of their messages; the message of the latest of them comes first.
+// Records of receives that wait, by the names of their messages; the message of the latest of them comes first.
 #[derive(Drop)]
-pub(crate) struct Awaited {
-    receives: LruCache<u32, Vec<Records>>,
+pub(crate) struct Awaited<S: BuildHasher> {
+    receives: LruCache<Bytes<'static>, Vec<Records>, S>,
     // How many receives these are.
     count: usize,
     alloc: Global,
 }
 
-impl Model for Awaited {
+impl<S: BuildHasher> Model for Awaited<S> {
     ghost use Rattle.std.specs.Prelude.{List, ℕ};
     ghost use Rattle.hlc_watch.specs.declared.records.Records.{Records};
 
-    ghost Value = { List (ℕ × List Records) };
+    ghost Value = { List (List ℕ × List Records) };
 
     ghost use Rattle.hlc_watch.specs.Lists.{AreCounted, lists_of};
 
@@ -32,13 +34,13 @@ impl Model for Awaited {
     ghost invariant = { λ awaited. AreCounted awaited.receives awaited.count };
 }
 
-impl Awaited {
-    // None.
-    pub(crate) fn new(alloc: Global) -> Result<Awaited, AllocError>
+impl<S: BuildHasher + Drop> Awaited<S> {
+    // None, whose names are to be hashed so.
+    pub(crate) fn new(alloc: Global, hash_builder: S) -> Result<Awaited<S>, AllocError>
         ensures { IfOk result (λ awaited. awaited ≡ []) }
     {
         Ok(Awaited {
-            receives: LruCache::unbounded(alloc)?,
+            receives: LruCache::unbounded_with_hasher(alloc, hash_builder)?,
             count: 0,
             alloc,
         })
@@ -52,9 +54,13 @@ impl Awaited {
     }
 
     // Has a receive wait for a message.
-    pub(crate) fn push(&mut self, message: u32, records: Records) -> Result<(), AllocError>
+    pub(crate) fn push(
+        &mut self,
+        message: Bytes<'static>,
+        records: Records,
+    ) -> Result<(), AllocError>
         requires { receive_count self.old < 2 ^ 64 - 1 }
-        ensures waits { OnOk result (self.new ≡ with_receive self.old message records) }
+        ensures waits { OnOk result (self.new ≡ with_receive self.old message.entry records) }
         ensures unchanged { OnErr result (self.new ≡ self.old) }
     {
         add(self.alloc, &mut self.receives, message, records)?;
@@ -62,12 +68,20 @@ impl Awaited {
         Ok(())
     }
 
-    // Takes the receives that wait for a message.
-    pub(crate) fn take(&mut self, message: u32) -> Option<Vec<Records>>
-        ensures taken { option_map (λ waited. waited.items) result ≡ lookup (nat_eq message) self.old }
-        ensures others { self.new ≡ remove_entry (nat_eq message) self.old }
+    // Whether a receive waits for a message.
+    pub(crate) fn contains(&self, message: &Bytes<'static>) -> bool
+        ensures { result ≡ is_some (lookup (bytes_eq message.now) self.now) }
     {
-        let waited = self.receives.pop(&message)?;
+        // Where none waits, the name needn't be hashed.
+        !self.receives.is_empty() && self.receives.contains(message)
+    }
+
+    // Takes the receives that wait for a message.
+    pub(crate) fn take(&mut self, message: &Bytes<'static>) -> Option<Vec<Records>>
+        ensures taken { option_map (λ waited. waited.items) result ≡ lookup (bytes_eq message.now) self.old }
+        ensures others { self.new ≡ remove_entry (bytes_eq message.now) self.old }
+    {
+        let waited = self.receives.pop(message)?;
         self.count -= waited.len();
         Some(waited)
     }
@@ -88,19 +102,19 @@ impl Awaited {
 }
 
 // Adds a receive of a message, and takes the message to the front.
-fn add(
+fn add<S: BuildHasher + Drop>(
     alloc: Global,
-    receives: &mut LruCache<u32, Vec<Records>>,
-    message: u32,
+    receives: &mut LruCache<Bytes<'static>, Vec<Records>, S>,
+    message: Bytes<'static>,
     records: Records,
 ) -> Result<(), AllocError>
     requires { receives.old.cap ≡ 2 ^ 64 - 1 }
-    ensures waits { OnOk result (lists_of receives.new.entries ≡ with_receive (lists_of receives.old.entries) message records) }
+    ensures waits { OnOk result (lists_of receives.new.entries ≡ with_receive (lists_of receives.old.entries) message.entry records) }
     ensures cap { receives.new.cap ≡ receives.old.cap }
     ensures unchanged { OnErr result (lists_of receives.new.entries ≡ lists_of receives.old.entries) }
 {
     if receives.contains(&message) {
-        push_to(receives, message, records)?;
+        push_to(receives, &message, records)?;
         receives.promote(&message);
         return Ok(());
     }
@@ -113,17 +127,17 @@ fn add(
 }
 
 // Adds a receive of a message of which there are some.
-fn push_to(
-    receives: &mut LruCache<u32, Vec<Records>>,
-    message: u32,
+fn push_to<S: BuildHasher + Drop>(
+    receives: &mut LruCache<Bytes<'static>, Vec<Records>, S>,
+    message: &Bytes<'static>,
     records: Records,
 ) -> Result<(), AllocError>
-    requires { IsSome (lookup (nat_eq message) receives.old.entries) }
+    requires { IsSome (lookup (bytes_eq message.now) receives.old.entries) }
     ensures waits { let lists = lists_of receives.old.entries in
-        OnOk result (lists_of receives.new.entries ≡ set_value (nat_eq message) lists (waiting_for lists message ++ records ∷ [])) }
+        OnOk result (lists_of receives.new.entries ≡ set_value (bytes_eq message.now) lists (waiting_for lists message.now ++ records ∷ [])) }
     ensures cap { receives.new.cap ≡ receives.old.cap }
     ensures unchanged { OnErr result (lists_of receives.new.entries ≡ lists_of receives.old.entries) }
 {
-    receives.peek_mut(&message).unwrap().push(records)?;
+    receives.peek_mut(message).unwrap().push(records)?;
     Ok(())
 }

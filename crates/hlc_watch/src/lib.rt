@@ -4,8 +4,9 @@
 //! receives. So they are known as soon as the last of these three has come, whatever else the log tells, and in whatever order the lines of
 //! different nodes come.
 //!
-//! - `Watch` keeps what is needed for that. `event` takes the next event, and gives the `Records` of those that are `Complete` now: of the event,
-//!   and of receives that came before it and waited for it. A receive whose send hasn't come waits.
+//! - `Watch` keeps what is needed for that. `event` takes the next event and the name of its message, and gives the `Records` of those that are
+//!   `Complete` now: of the event, and of receives that came before it and waited for it. A receive whose send hasn't come waits. The caller has the
+//!   place for these, since they are large and one place serves for all events.
 //! - `Records::causes` says which rules an event breaks: its `LineCauses`, which name other events by their lines.
 //! - A `RuledEvent` is an event of a log (`hlc_log`) as a clock rule reads it; `new` makes one. A log may be put together of several files, so a
 //!   `FileLine` is a line of one of them.
@@ -20,13 +21,24 @@
 //! A first caller, proved in `hlc_log_examples`: which rules an event breaks, as it comes, if all its records are there.
 //!
 //! ```rust
-//! pub fn watch_event(watch: &mut Watch, event: &LogEvent) -> Result<Option<LineCauses>, AllocError>
+//! pub fn watch_event<S: BuildHasher + Drop>(
+//!     alloc: Global,
+//!     watch: &mut Watch<S>,
+//!     event: &LogEvent,
+//!     message: &[u8],
+//! ) -> Result<Option<LineCauses>, AllocError>
 //!     requires { IsSmallCarried event.now.carried }
-//!     ensures causes { IfOk result (λ causes. causes ≡ option_map (line_causes (2 ^ 32 - 1)) (event_of watch.old (ruled_by Receives.Tick 0 event.now))) }
-//!     ensures kept { OnOk result (watch.new ≡ after_event watch.old (ruled_by Receives.Tick 0 event.now)) }
+//!     ensures causes { IfOk result (λ causes. causes
+//!         ≡ option_map (line_causes (2 ^ 32 - 1)) (event_of watch.old (ruled_by Receives.Tick 0 event.now) message.now)) }
+//!     ensures kept { OnOk result (watch.new ≡ after_event watch.old (ruled_by Receives.Tick 0 event.now) message.now) }
 //!     ensures unchanged { OnErr result (watch.new ≡ watch.old) }
 //! {
-//!     let complete = watch.event(RuledEvent::new(Receives::Tick, 0, event))?;
+//!     let mut complete = Complete {
+//!         event: None,
+//!         waited: Vec::new(alloc),
+//!     };
+//!     let ruled = RuledEvent::new(Receives::Tick, 0, event);
+//!     watch.event(&ruled, message, &mut complete)?;
 //!     Ok(complete.event.map(|records| records.causes(u32::MAX)))
 //! }
 //! ```
@@ -35,12 +47,14 @@
 mod awaited;
 mod file_line;
 pub mod laws;
+mod message_role;
 mod messages;
 mod records;
 mod ruled_event;
 mod watch;
 
 pub use file_line::FileLine;
+pub use message_role::MessageRole;
 pub use records::{Claimed, LineCauses, Records};
 pub use ruled_event::RuledEvent;
 pub use watch::{Complete, Watch};

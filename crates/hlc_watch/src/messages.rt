@@ -1,27 +1,30 @@
 // What is remembered of messages.
 
-ghost use Rattle.std.specs.Prelude.{◌≡◌, ◌<◌, IfOk, OnErr, OnOk};
-ghost use Rattle.hlc_watch.specs.Kept.{after_receive, after_send, after_wait, no_messages, receive_count, records_told, waited_for};
+ghost use Rattle.std.specs.Prelude.{◌≡◌, ◌<◌, IfOk, OnErr, OnOk, bytes_eq};
+ghost use Rattle.std.specs.Map.{lookup};
+ghost use Rattle.hlc_watch.specs.Kept.{after_send, after_wait, no_messages, receive_count, waited_for, with_found};
 
 use crate::awaited::Awaited;
 use crate::records::{Claimed, Records, give_send};
+use hlc_pages::Bytes;
 use lru::LruCache;
 use std::alloc::{AllocError, Global};
+use std::hash::BuildHasher;
 use std::marker::Model;
 use std::num::NonZeroUsize;
 
 // The latest messages that were sent, and receives whose sends haven't come.
 #[derive(Drop)]
-pub(crate) struct Messages {
-    // By the number of a message, what the record of its send claims; the one that was sent or received last comes first.
-    sent: LruCache<u32, Claimed>,
-    awaited: Awaited,
+pub(crate) struct Messages<S: BuildHasher> {
+    // By the name of a message, what the record of its send claims; the one that was sent or received last comes first.
+    sent: LruCache<Bytes<'static>, Claimed, S>,
+    awaited: Awaited<S>,
     // How many receives were forgotten that waited; or the greatest number, if there were more.
     forgotten: u64,
     alloc: Global,
 }
 
-impl Model for Messages {
+impl<S: BuildHasher> Model for Messages<S> {
     ghost use Rattle.hlc_watch.specs.Kept.{IsBounded, KeptMessages};
 
     ghost Value = { KeptMessages };
@@ -36,17 +39,19 @@ impl Model for Messages {
     ghost invariant = { λ messages. IsBounded messages.sent.cap messages.awaited };
 }
 
-impl Messages {
-    // None, and so many are kept.
-    pub(crate) fn new(alloc: Global, keep: u32) -> Result<Messages, AllocError>
+impl<S: BuildHasher + Drop> Messages<S> {
+    // None, whose names are to be hashed so, and so many are kept.
+    pub(crate) fn new(alloc: Global, keep: u32, hash_builder: S) -> Result<Messages<S>, AllocError>
+    where
+        S: Copy,
         requires { 0 < keep }
         ensures { IfOk result (λ messages. messages ≡ no_messages keep) }
     {
-        let mut sent = LruCache::unbounded(alloc)?;
+        let mut sent = LruCache::unbounded_with_hasher(alloc, hash_builder)?;
         sent.resize(NonZeroUsize::new(keep as usize).unwrap());
         Ok(Messages {
             sent,
-            awaited: Awaited::new(alloc)?,
+            awaited: Awaited::new(alloc, hash_builder)?,
             forgotten: 0,
             alloc,
         })
@@ -55,15 +60,22 @@ impl Messages {
     // A message is sent: gives the records of the receives that waited for it.
     pub(crate) fn send(
         &mut self,
-        message: u32,
+        message: &[u8],
         claimed: Claimed,
     ) -> Result<Vec<Records>, AllocError>
-        ensures waited { IfOk result (λ waited. waited.items ≡ waited_for self.old message claimed) }
-        ensures kept { OnOk result (self.new ≡ after_send self.old message claimed) }
+        ensures waited { IfOk result (λ waited. waited.items ≡ waited_for self.old message.now claimed) }
+        ensures kept { OnOk result (self.new ≡ after_send self.old message.now claimed) }
         ensures unchanged { OnErr result (self.new ≡ self.old) }
     {
-        self.sent.put(message, claimed)?;
-        match self.awaited.take(message) {
+        let name = Bytes::from_slice(self.alloc, message)?;
+        if !self.awaited.contains(&name) {
+            self.sent.put(name, claimed)?;
+            return Ok(Vec::new(self.alloc));
+        }
+        // Those that wait are looked up by a copy of the name, which is made while nothing is changed.
+        let again = Bytes::from_slice(self.alloc, message)?;
+        self.sent.put(name, claimed)?;
+        match self.awaited.take(&again) {
             Some(mut waited) => {
                 give_send(&mut waited, claimed);
                 Ok(waited)
@@ -72,42 +84,27 @@ impl Messages {
         }
     }
 
-    // A message is received: gives the records with that of its send, if that has come; else the receive waits.
-    pub(crate) fn receive(
-        &mut self,
-        message: u32,
-        records: Records,
-    ) -> Result<Option<Records>, AllocError>
-        ensures told { IfOk result (λ told. told ≡ records_told self.old message records) }
-        ensures kept { OnOk result (self.new ≡ after_receive self.old message records) }
-        ensures unchanged { OnErr result (self.new ≡ self.old) }
+    // What the send of a message claims that is received, if that is remembered: then it is the latest.
+    pub(crate) fn find(&mut self, message: &Bytes<'static>) -> Option<Claimed>
+        ensures found { result ≡ lookup (bytes_eq message.now) self.old.sent }
+        ensures kept { self.new ≡ with_found self.old message.now }
     {
-        match self.sent.peek(&message).copied() {
-            Some(send) => {
-                self.sent.promote(&message);
-                Ok(Some(Records {
-                    send: Some(send),
-                    ..records
-                }))
-            }
-            None => {
-                self.wait(message, records)?;
-                Ok(None)
-            }
-        }
+        self.sent.get(message).copied()
     }
 
     // Has a receive wait. If as many wait already as are kept, those of the message for which none has come for the longest time are forgotten.
-    fn wait(&mut self, message: u32, records: Records) -> Result<(), AllocError>
-        ensures kept { OnOk result (self.new ≡ after_wait self.old message records) }
+    pub(crate) fn wait(
+        &mut self,
+        message: Bytes<'static>,
+        records: Records,
+    ) -> Result<(), AllocError>
+        ensures kept { OnOk result (self.new ≡ after_wait self.old message.entry records) }
         ensures unchanged { OnErr result (self.new ≡ self.old) }
     {
         let is_full = self.sent.cap().get() <= self.awaited.count();
         self.awaited.push(message, records)?;
-        if is_full {
-            let forgotten = self.awaited.forget() as u64;
-            self.forgotten = self.forgotten.saturating_add(forgotten);
-        }
+        let forgotten = if is_full { self.awaited.forget() } else { 0 };
+        self.forgotten = self.forgotten.saturating_add(forgotten as u64);
         Ok(())
     }
 

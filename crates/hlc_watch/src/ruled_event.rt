@@ -3,6 +3,7 @@ ghost use Rattle.hlc_log.specs.Events.{IsSmallCarried};
 ghost use Rattle.hlc_watch.specs.Records.{rule_by, ruled_by, told_reading};
 
 use crate::file_line::FileLine;
+use crate::message_role::MessageRole;
 use hlc_causality::{EventRule, Receives};
 use hlc_log::{LogEvent, LogKind};
 use hlc_stamp::{NodeId, Stamp};
@@ -18,8 +19,8 @@ pub struct RuledEvent {
     pub reading: Option<u64>,
     /// What the clock rule asks of it.
     pub rule: EventRule,
-    /// What happened.
-    pub kind: LogKind,
+    /// What it does with its message, of which this says no more: an event comes with the name of that.
+    pub role: MessageRole,
     /// The stamp that the log claims for it.
     pub stamp: Stamp,
     /// Of a receive, the stamp that its message carried, if the log tells that.
@@ -40,7 +41,7 @@ impl RuledEvent {
             },
             reading: told_reading(event),
             rule: rule_of(receives, event),
-            kind: event.kind,
+            role: MessageRole::of(event.kind),
             stamp: event.stamp,
             carried: event.carried,
         }

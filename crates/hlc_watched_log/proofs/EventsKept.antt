@@ -2,54 +2,94 @@
 use Rattle.std.proofs.Common.{◌≡◌, ◌∙◌, ◌<◌, ◌≤◌, ◌++◌, ◌∷◌, [], List, Option, Some, None, ℕ, zero, suc, Contains, append-nil, append_assoc, ap, arith, get_or, length, length-append, map, refl, subst, sym}
 use Rattle.std.proofs.Math.ListN.{get_or-append}
 use Rattle.std.proofs.Math.Seq.{get_or-append_seam}
-use Rattle.std.proofs.lemmas.List.{length-map, map-append}
+use Rattle.std.proofs.lemmas.List.{get_or-map}
 use Rattle.hlc_causality.specs.declared.receives.Receives.{Receives}
-use Rattle.hlc_log.specs.Events.{no_event}
+use Rattle.hlc_causality.specs.declared.receives.Receives.TheVariants.{Merge, MergeClock, Tick}
+use Rattle.hlc_log.specs.declared.log_event.LogEvent.{LogEvent}
+use Rattle.hlc_log.specs.declared.log_event.LogKind.{LogKind}
+use Rattle.hlc_log.specs.declared.log_event.LogKind.TheVariants as kind
+use Rattle.hlc_log.specs.Events.{no_event, of_kind}
 use Rattle.hlc_log_text.specs.FileMarks.{begun_file}
 use Rattle.hlc_log_text.specs.NamedEvent.{NamedEvent}
 use Rattle.hlc_log_text.specs.declared.bad_log.BadLog.{BadLog}
+use Rattle.hlc_watch.specs.Coming.{ruled_at}
 use Rattle.hlc_watch.specs.Laws.{kept_after, told_as}
 use Rattle.hlc_watch.specs.Records.{ruled_by}
 use Rattle.hlc_watch.specs.Watching.{KeptLog, after_event}
 use Rattle.hlc_watch.specs.declared.records.Records.{Records}
-use Rattle.hlc_watched_log.specs.Laws.{FileEvent, TellsAsWatched, event_by_item, event_by_mark, event_next, events_from, events_of, events_told, file_at}
-use Rattle.hlc_watched_log.specs.Watched.{WatchedLog, bad_of, event_on, log_by, on_line, said_event}
+use Rattle.hlc_watch.specs.declared.ruled_event.RuledEvent.{RuledEvent}
+use Rattle.hlc_watched_log.specs.Laws.{FileEvent, TellsAsWatched, event_by_item, event_by_mark, event_next, events_from, events_of, events_told, file_at, message_number, name_at, numbered, numbered_kind}
+use Rattle.hlc_watched_log.specs.Watched.{WatchedLog, bad_of, event_on, log_by, message_of, on_line, said_event}
 use Rattle.hlc_watched_log.specs.Watching.{Placed, WatchState, at_first, log_after, said_next, state_after, state_by_mark, state_next}
 use Rattle.hlc_watched_log.specs.declared.watch_rules.WatchRules.{WatchRules}
 
--- what is told by places is so of the first places, and of the one after them
-module _ {B : Type 0} (f : FileEvent → B) (d : B) (xs : List FileEvent) where
-  mapped_first : (ys : List FileEvent) (n : ℕ) → n < length xs → get_or (map f (xs ++ ys)) n d ≡ get_or (map f xs) n d
-  mapped_first ys n within =
-      let size = length-map xs f in
-      ap (λ (all : List B). get_or all n d) (map-append f xs ys) ∙ get_or-append (map f xs) (map f ys) d n (omega arith)
+-- the event at a place
+abbrev pub no_item : FileEvent
+no_item = record { file = 0; event = no_event; message = [] }
 
-  mapped_last : (x : FileEvent) → get_or (map f (xs ++ x ∷ [])) (length xs) d ≡ f x
-  mapped_last x =
-      ap (λ (all : List B). get_or all (length xs) d) (map-append f xs (x ∷ []))
-      ∙ ap (λ (n : ℕ). get_or (map f xs ++ f x ∷ []) n d) (sym (length-map xs f)) ∙ get_or-append_seam (map f xs) (f x) [] d
+abbrev pub item_at : List FileEvent → ℕ → FileEvent
+item_at events n = get_or events n no_item
+
+-- an event as a clock rule reads it, which doesn't look at the number of its message
+abbrev ruled_item : Receives → FileEvent → RuledEvent
+ruled_item receives x = ruled_by receives x.file x.event
+
+ruled_of_kind : (receives : Receives) (file number : ℕ) (event : LogEvent) (kind : LogKind)
+    → ruled_by receives file (of_kind (numbered_kind number kind) event) ≡ ruled_by receives file (of_kind kind event)
+ruled_of_kind receives file number event kind.Local = refl
+ruled_of_kind receives file number event (kind.Send message) = refl
+ruled_of_kind Tick file number event (kind.Receive message) = refl
+ruled_of_kind Merge file number event (kind.Receive message) = refl
+ruled_of_kind MergeClock file number event (kind.Receive message) = refl
+ruled_of_kind receives file number event kind.Restart = refl
+ruled_of_kind receives file number event kind.Outside = refl
+
+-- the name of the message at a place
+pub name_here : (events : List FileEvent) (n : ℕ) → n < length events → name_at events n ≡ (item_at events n).message
+name_here events n within = get_or-map (λ (x : FileEvent). x.message) events n no_item [] within
 
 module _ (receives : Receives) (keep : ℕ) where
   abbrev kept_of : List FileEvent → ℕ → KeptLog
-  kept_of events n = kept_after receives keep (file_at events) (events_of events) n
+  kept_of events n = kept_after receives keep (file_at events) (name_at events) (events_of events) n
+
+  -- what comes at a place
+  pub ruled_here : (events : List FileEvent) (n : ℕ) → n < length events
+      → ruled_at receives (file_at events) (events_of events) n ≡ ruled_item receives (item_at events n)
+  ruled_here events n within =
+      let x = item_at events n in
+      let file = get_or-map (λ (x : FileEvent). x.file) events n no_item 0 within in
+      let event = get_or-map (numbered events) events n no_item no_event within in
+      (λ i. ruled_by receives (file i) (event i)) ∙ ruled_of_kind receives x.file (message_number events x.message) x.event x.event.kind
 
   -- what is kept of the first events doesn't depend on those after them
   kept_first : (xs ys : List FileEvent) (n : ℕ) → n ≤ length xs → kept_of (xs ++ ys) n ≡ kept_of xs n
   kept_first xs ys zero within = refl
   kept_first xs ys (suc n) within =
-      let file = mapped_first (λ (x : FileEvent). x.file) 0 xs ys n (omega arith) in
-      let event = mapped_first (λ (x : FileEvent). x.event) no_event xs ys n (omega arith) in
-      λ i. after_event (kept_first xs ys n (omega arith) i) (ruled_by receives (file i) (event i))
+      let more = length-append xs ys in
+      let item = get_or-append xs ys no_item n (omega arith) in
+      let ruled = ruled_here (xs ++ ys) n (omega arith) ∙ ap (ruled_item receives) item ∙ sym (ruled_here xs n (omega arith)) in
+      let name = name_here (xs ++ ys) n (omega arith) ∙ ap (λ (x : FileEvent). x.message) item ∙ sym (name_here xs n (omega arith)) in
+      λ i. after_event (kept_first xs ys n (omega arith) i) (ruled i) (name i)
 
-  -- with one event more
-  kept_more : (xs : List FileEvent) (x : FileEvent)
-      → kept_of (xs ++ x ∷ []) (length (xs ++ x ∷ [])) ≡ after_event (kept_of xs (length xs)) (ruled_by receives x.file x.event)
-  kept_more xs x =
-      let size : length (xs ++ x ∷ []) ≡ suc (length xs) = grind (arith, length-append) in
-      let file = mapped_last (λ (x : FileEvent). x.file) 0 xs x in
-      let event = mapped_last (λ (x : FileEvent). x.event) no_event xs x in
-      ap (kept_of (xs ++ x ∷ [])) size
-      ∙ (λ i. after_event (kept_first xs (x ∷ []) (length xs) (omega arith) i) (ruled_by receives (file i) (event i)))
+  -- the last event
+  module _ (xs : List FileEvent) (x : FileEvent) where
+    last_item : item_at (xs ++ x ∷ []) (length xs) ≡ x
+    last_item = get_or-append_seam xs x [] no_item
+
+    there : length xs < length (xs ++ x ∷ [])
+    there = let more = length-append xs (x ∷ []) in omega arith
+
+    pub ruled_last : ruled_at receives (file_at (xs ++ x ∷ [])) (events_of (xs ++ x ∷ [])) (length xs) ≡ ruled_item receives x
+    ruled_last = ruled_here (xs ++ x ∷ []) (length xs) there ∙ ap (ruled_item receives) last_item
+
+    pub name_last : name_at (xs ++ x ∷ []) (length xs) ≡ x.message
+    name_last = name_here (xs ++ x ∷ []) (length xs) there ∙ ap (λ (x : FileEvent). x.message) last_item
+
+    -- with one event more
+    kept_more : kept_of (xs ++ x ∷ []) (length (xs ++ x ∷ [])) ≡ after_event (kept_of xs (length xs)) (ruled_item receives x) x.message
+    kept_more =
+        let size : length (xs ++ x ∷ []) ≡ suc (length xs) = grind (arith, length-append) in
+        ap (kept_of (xs ++ x ∷ [])) size ∙ (λ i. after_event (kept_first xs (x ∷ []) (length xs) (omega arith) i) (ruled_last i) (name_last i))
 
 -- these events came, and this is kept of them
 abbrev IsKeptOf : WatchRules → List FileEvent → KeptLog → Type 0
@@ -64,8 +104,8 @@ kept_next : (rules : WatchRules) (log : WatchedLog) (before : List FileEvent) �
 kept_next rules log before h (Some why) event = none_more rules log.kept before h
 kept_next rules log before h None None = none_more rules log.kept before h
 kept_next rules log before h None (Some named) =
-    let x : FileEvent = record { file = log.files.current; event = event_on log named } in
-    ap (λ (kept : KeptLog). after_event kept (ruled_by rules.records.receives x.file x.event)) h ∙ sym (kept_more rules.records.receives rules.keep before x)
+    let x : FileEvent = record { file = log.files.current; event = event_on log named; message = message_of named } in
+    ap (λ (kept : KeptLog). after_event kept (ruled_by rules.records.receives x.file x.event) x.message) h ∙ sym (kept_more rules.records.receives rules.keep before x)
 
 kept_by_mark : (rules : WatchRules) (state : WatchState) (next : Placed) (before : List FileEvent) → IsKeptOf rules before state.log.kept
     → (mark : Option (List ℕ)) → IsKeptOf rules (before ++ event_by_mark rules state next mark) (state_by_mark rules state next mark).log.kept
@@ -89,8 +129,6 @@ told_as_watched rules records next event told is there =
     let receives = rules.records.receives in
     let before = events_told rules records in
     let kept : IsKeptOf rules before (log_after rules records).kept = kept_from rules (at_first rules) [] records refl in
-    let file = mapped_last (λ (x : FileEvent). x.file) 0 before event in
-    let named = mapped_last (λ (x : FileEvent). x.event) no_event before event in
     subst (λ (all : List Records). Contains all told)
     (λ i. told_as ((kept ∙ sym (kept_first receives rules.keep before (event ∷ []) (length before) (omega arith))) i)
-    (ruled_by receives (sym file i) (sym named i))) there
+    (sym (ruled_last receives rules.keep before event) i) (sym (name_last receives rules.keep before event) i)) there

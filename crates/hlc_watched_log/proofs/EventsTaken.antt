@@ -33,18 +33,18 @@ module _ (rules : WatchRules) (old : WatchedLog) (head : RecordHead) (extras : E
   -- an event is added by numbers, and told of
   pub event_taken : (event : LogEvent) (complete : List Records) (new : WatchedLog) (names : LogNames) (line : FileLine) (before mid after : Option (List ℕ))
       → None ≡ unwatched_by rules.records.form head.word head.has_stamp message (name_number old.names.nodes node)
-      → event ≡ event_by old head extras node message → complete ≡ complete_as rules old.kept old.files.current event
-      → new ≡ with_event rules old head.word node message event → names ≡ new.names → line ≡ line_here new.files
+      → event ≡ event_by old head extras node → complete ≡ complete_as rules old.kept old.files.current event message
+      → new ≡ with_event rules old node message event → names ≡ new.names → line ≡ line_here new.files
       → Appends before mid (text_of (event_rows rules names complete line event))
       → Appends mid after (text_of (due_rows rules.every new))
       → (None ≡ unwatched rules.records.form old.names.nodes named) × TakesOr rules old (Some named) before after new None
   event_taken event complete new names line before mid after good event_is complete_is new_is names_are line_is first then =
       let here = event_on old named in
-      let kept : new ≡ with_named rules old named = new_is ∙ ap (λ (e : LogEvent). with_event rules old head.word node message e) event_is in
-      let complete_here = complete_as rules old.kept old.files.current here in
+      let kept : new ≡ with_named rules old named = new_is ∙ ap (λ (e : LogEvent). with_event rules old node message e) event_is in
+      let complete_here = complete_as rules old.kept old.files.current here message in
       let rows : event_rows rules names complete line event ≡ event_rows rules (with_named rules old named).names complete_here (line_here old.files) here =
       λ i. event_rows rules ((names_are ∙ ap (λ (l : WatchedLog). l.names) kept) i)
-      ((complete_is ∙ ap (λ (e : LogEvent). complete_as rules old.kept old.files.current e) event_is) i)
+      ((complete_is ∙ ap (λ (e : LogEvent). complete_as rules old.kept old.files.current e message) event_is) i)
       ((line_is ∙ ap (λ (l : WatchedLog). line_here l.files) kept) i) (event_is i) in (
         good,
         (

@@ -2,6 +2,7 @@ pub mod Answered
 pub mod EventsKept
 pub mod EventsTaken
 pub mod Headers
+pub mod MessageNumbers
 pub mod NameNumbers
 pub mod Records
 pub mod RowsAdded

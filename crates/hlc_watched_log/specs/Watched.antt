@@ -3,6 +3,8 @@ use Rattle.std.specs.Prelude.{◌==◌, ◌+◌, ◌%◌, ℕ, Bool, false, List
 use Rattle.std.specs.List.{flat_map, list_any}
 use Rattle.hlc_csv.specs.Rows.{Fields}
 use Rattle.hlc_log.specs.declared.log_event.LogEvent.{LogEvent}
+use Rattle.hlc_log.specs.declared.log_event.LogKind.{LogKind}
+use Rattle.hlc_log.specs.declared.log_event.LogKind.TheVariants as kind
 use Rattle.hlc_log.specs.declared.log_event.TheConstants.{MAX_LOG_NODES}
 use Rattle.hlc_log_text.specs.BadLog.{bad_log_column, bad_log_word}
 use Rattle.hlc_log_text.specs.LogColumn.{column_name}
@@ -29,7 +31,7 @@ use Rattle.hlc_watch.specs.declared.records.Records.{Records}
 use Rattle.hlc_watch.specs.declared.file_line.FileLine.{FileLine}
 use Rattle.hlc_watched_log.specs.CauseRows.{cause_rows, has_cause, is_broken, row_if}
 use Rattle.hlc_watched_log.specs.Files.{KeptFiles, line_here, marked_at, moved_to, no_files, told_line}
-use Rattle.hlc_watched_log.specs.Numbers.{kind_of, message_number, messages_after, name_number}
+use Rattle.hlc_watched_log.specs.Numbers.{name_number}
 use Rattle.hlc_watched_log.specs.Skews.{ShownSkews, skew_rows, skews_after}
 use Rattle.hlc_watched_log.specs.Summary.{claimed_ahead, count_rows, no_counts, node_rows, one_more, tallies_after, with_found, with_kind}
 use Rattle.hlc_watched_log.specs.declared.log_names.LogNames.{LogNames}
@@ -37,14 +39,12 @@ use Rattle.hlc_watched_log.specs.declared.node_tally.NodeTally.{NodeTally}
 use Rattle.hlc_watched_log.specs.declared.watch_counts.WatchCounts.{WatchCounts}
 use Rattle.hlc_watched_log.specs.declared.watch_rules.WatchRules.{WatchRules}
 
--- the names of nodes and files, and what is counted of each node; where its lines stand; the names of the latest messages, and how many are kept; how
--- many events came; what is kept of them; the skews that they show; and what is counted of all
+-- the names of nodes and files, and what is counted of each node; where its lines stand; how many events came; what is kept of them; the skews that
+-- they show; and what is counted of all
 pub record WatchedLog : Type 0 where
   pub names : LogNames
   pub files : KeptFiles
   pub tallies : List NodeTally
-  pub messages : List (List ℕ × ℕ)
-  pub keep : ℕ
   pub events : ℕ
   pub kept : KeptLog
   pub skews : ShownSkews
@@ -56,8 +56,6 @@ no_events keep = record {
   names = record { nodes = []; files = [] };
   files = no_files;
   tallies = [];
-  messages = [];
-  keep = keep;
   events = 0;
   kept = no_log keep;
   skews = [];
@@ -75,13 +73,20 @@ in_file log name line = record log {
   files = marked_at log.files (name_number log.names.files name + 1) line;
 }
 
--- an event of a node and a message with these names, which a record tells of, by numbers: a message that is new has the number of the event
-abbrev pub event_by : WatchedLog → RecordHead → Extras → (node message : List ℕ) → LogEvent
-event_by log head extras node message = record {
+-- what an event of a word is; its message is told apart by its name, and numbered 0 here, as all are
+abbrev pub kind_of : LogWord → LogKind
+kind_of word.Local = kind.Local
+kind_of word.Send = kind.Send (record { 0 = 0 })
+kind_of word.Receive = kind.Receive (record { 0 = 0 })
+kind_of word.Restart = kind.Restart
+
+-- an event of a node with this name, which a record tells of
+abbrev pub event_by : WatchedLog → RecordHead → Extras → (node : List ℕ) → LogEvent
+event_by log head extras node = record {
   node = record { 0 = name_number log.names.nodes node };
   reading = head.reading;
   has_reading = head.has_reading;
-  kind = kind_of head.word (message_number log.messages message log.events);
+  kind = kind_of head.word;
   stamp = head.stamp;
   has_stamp = head.has_stamp;
   carried = extras.carried;
@@ -98,7 +103,7 @@ abbrev pub message_of : NamedEvent → List ℕ
 message_of named = unwrap_or named.message []
 
 abbrev pub event_on : WatchedLog → NamedEvent → LogEvent
-event_on log named = event_by log named.head (extras_of named) named.node (message_of named)
+event_on log named = event_by log named.head (extras_of named) named.node
 
 -- the first column of a stamp
 abbrev pub stamp_column : StampForm → LogColumn
@@ -150,9 +155,9 @@ abbrev pub over_row : LogNames → FileLine → LogEvent → Fields
 over_row names line event =
     codes "over" ∷ name_of names.nodes event.node.0 ∷ told_line names.files line ∷ decimal (unwrap_or (claimed_ahead event) 0) ∷ []
 
--- the records that are complete as an event of a file comes
-abbrev pub complete_as : WatchRules → KeptLog → (file : ℕ) → LogEvent → List Records
-complete_as rules kept file event = told_as kept (ruled_by rules.records.receives file event)
+-- the records that are complete as an event of a file comes, with the name of its message
+abbrev pub complete_as : WatchRules → KeptLog → (file : ℕ) → LogEvent → (message : List ℕ) → List Records
+complete_as rules kept file event message = told_as kept (ruled_by rules.records.receives file event) message
 
 -- what is counted, with an event more
 abbrev pub counts_after : WatchRules → WatchCounts → (complete : List Records) → LogEvent → WatchCounts
@@ -160,22 +165,20 @@ counts_after rules before complete event =
     with_found (with_kind before event.kind) (list_any (is_broken (greatest_c rules.records.form)) complete) (is_over rules.limit (claimed_ahead event))
 
 -- what is kept, with an event more, whose node and message have these names
-abbrev pub with_event : WatchRules → WatchedLog → (word : LogWord) → (node message : List ℕ) → LogEvent → WatchedLog
-with_event rules log word node message event = record {
+abbrev pub with_event : WatchRules → WatchedLog → (node message : List ℕ) → LogEvent → WatchedLog
+with_event rules log node message event = record {
   names = record { nodes = with_name log.names.nodes node; files = log.names.files };
   files = log.files;
   tallies = tallies_after log.tallies (line_here log.files) event;
-  messages = messages_after log.keep log.messages word message log.events;
-  keep = log.keep;
   events = log.events + 1;
-  kept = after_event log.kept (ruled_by rules.records.receives log.files.current event);
-  skews = skews_after log.skews (complete_as rules log.kept log.files.current event);
-  counts = counts_after rules log.counts (complete_as rules log.kept log.files.current event) event;
+  kept = after_event log.kept (ruled_by rules.records.receives log.files.current event) message;
+  skews = skews_after log.skews (complete_as rules log.kept log.files.current event message);
+  counts = counts_after rules log.counts (complete_as rules log.kept log.files.current event message) event;
 }
 
 -- so of one that a record tells of
 abbrev pub with_named : WatchRules → WatchedLog → NamedEvent → WatchedLog
-with_named rules log named = with_event rules log named.head.word named.node (message_of named) (event_on log named)
+with_named rules log named = with_event rules log named.node (message_of named) (event_on log named)
 
 -- the rows of an event on a line: the causes of the records that are complete now, and that it is over the limit
 abbrev pub event_rows : WatchRules → LogNames → (complete : List Records) → FileLine → LogEvent → List Fields
@@ -206,7 +209,7 @@ told_rows rules log None = []
 told_rows rules log (Some named) =
     let next = with_named rules log named in
     let event = event_on log named in
-    event_rows rules next.names (complete_as rules log.kept log.files.current event) (line_here log.files) event ++ due_rows rules.every next
+    event_rows rules next.names (complete_as rules log.kept log.files.current event (message_of named)) (line_here log.files) event ++ due_rows rules.every next
 
 -- what one is answered with that is to say this, and is bad for that reason, if it is
 abbrev pub rows_by : WatchRules → WatchedLog → Option BadLog → Option NamedEvent → List Fields

@@ -95,13 +95,13 @@ fn push_event<W: Write>(
     alloc: Global,
     rows: &mut RowBuffer,
     names: &LogNames,
-    rules: WatchRules,
+    rules: &WatchRules,
     complete: &Complete,
     line: FileLine,
     event: &LogEvent,
     writer: &mut W,
 ) -> Result<(), OutputFault>
-    ensures { OnOk result (AddsRows W.contents writer.old writer.new rows.old rows.new (event_rows rules names.now (complete_in complete.now) line event.now)) }
+    ensures { OnOk result (AddsRows W.contents writer.old writer.new rows.old rows.new (event_rows rules.now names.now (complete_in complete.now) line event.now)) }
 {
     let full = rules.records.form.full();
     push_first(alloc, rows, names, full, complete.event, writer)?;
@@ -113,16 +113,16 @@ fn push_event<W: Write>(
 pub(crate) fn write_event<W: Write>(
     alloc: Global,
     names: &LogNames,
-    rules: WatchRules,
+    rules: &WatchRules,
     complete: &Complete,
     line: FileLine,
     event: &LogEvent,
     told: bool,
     writer: &mut W,
 ) -> Result<(), OutputFault>
-    requires told { told ≡ is_told rules (complete_in complete.now) event.now }
+    requires told { told ≡ is_told rules.now (complete_in complete.now) event.now }
     ensures { OnOk result (Appends (W.contents writer.old) (W.contents writer.new)
-        (text_of (event_rows rules names.now (complete_in complete.now) line event.now))) }
+        (text_of (event_rows rules.now names.now (complete_in complete.now) line event.now))) }
 {
     if !told {
         return Ok(());

@@ -4,11 +4,11 @@ ghost use Rattle.std.specs.Prelude.{◌≡◌, [], unwrap_or};
 ghost use Rattle.csv.specs.Records.{fields_of};
 ghost use Rattle.hlc_csv.specs.Rows.{field_of};
 ghost use Rattle.hlc_log_text.specs.NamedEvent.{if_message, message_place};
-ghost use Rattle.hlc_watched_log.specs.Watched.{is_unnamed, stamp_column, unwatched_by};
+ghost use Rattle.hlc_watched_log.specs.Watched.{is_unnamed, kind_of, stamp_column, unwatched_by};
 
 use csv::ByteRecord;
 use hlc_csv::field;
-use hlc_log::MAX_LOG_NODES;
+use hlc_log::{LogKind, MAX_LOG_NODES, MessageId};
 use hlc_log_text::{BadLog, LogColumn, LogWord, StampForm, message_place};
 
 // The name of the message of an event of a word, which is empty if it has none, in a record whose fields are in their places.
@@ -18,6 +18,18 @@ pub(crate) fn message_name(form: StampForm, word: LogWord, placed: &ByteRecord) 
     match word {
         LogWord::Local | LogWord::Restart => b"",
         LogWord::Send | LogWord::Receive => field(placed, message_place(form)),
+    }
+}
+
+// What an event of a word is. Its message is told apart by its name, and numbered 0 here, as all are.
+pub(crate) fn kind_of(word: LogWord) -> LogKind
+    ensures { result ≡ kind_of word }
+{
+    match word {
+        LogWord::Local => LogKind::Local,
+        LogWord::Send => LogKind::Send(MessageId(0)),
+        LogWord::Receive => LogKind::Receive(MessageId(0)),
+        LogWord::Restart => LogKind::Restart,
     }
 }
 

@@ -1,7 +1,7 @@
 // What is counted of a node.
 
 ghost use Rattle.std.specs.Prelude.{◌≡◌};
-ghost use Rattle.hlc_watched_log.specs.Summary.{claimed_ahead, further, furthest_with, no_tally, one_more, with_event};
+ghost use Rattle.hlc_watched_log.specs.Summary.{claimed_ahead, furthest_with, no_tally, one_more, with_event};
 
 use hlc_log::LogEvent;
 use hlc_watch::FileLine;
@@ -39,23 +39,16 @@ pub(crate) fn one_more(count: u64) -> u64
     count.saturating_add(1)
 }
 
-// Of two claims the one that is further above its reading, or the first if none is.
-fn further(furthest: Option<FarClaim>, claim: FarClaim) -> FarClaim
-    ensures { result ≡ further furthest claim }
+// Takes in that an event on a line claims to be so far ahead: the first of those that are furthest above their readings stays.
+fn take_claim(furthest: &mut Option<FarClaim>, line: FileLine, ahead: Option<u64>)
+    ensures { furthest.new ≡ furthest_with furthest.old line ahead }
 {
+    let Some(ahead) = ahead else {
+        return;
+    };
     match furthest {
-        Some(far) if claim.ahead <= far.ahead => far,
-        _ => claim,
-    }
-}
-
-// The furthest claim, once an event on a line claims to be so far ahead.
-fn furthest_with(furthest: Option<FarClaim>, line: FileLine, ahead: Option<u64>) -> Option<FarClaim>
-    ensures { result ≡ furthest_with furthest line ahead }
-{
-    match ahead {
-        None => furthest,
-        Some(ahead) => Some(further(furthest, FarClaim { ahead, line })),
+        Some(far) if ahead <= far.ahead => {}
+        _ => *furthest = Some(FarClaim { ahead, line }),
     }
 }
 
@@ -70,13 +63,11 @@ impl NodeTally {
         }
     }
 
-    // With an event more, on a line.
-    pub(crate) fn with_event(self, line: FileLine, event: &LogEvent) -> NodeTally
-        ensures { result ≡ with_event self line event.now }
+    // Takes in an event more, on a line.
+    pub(crate) fn take(&mut self, line: FileLine, event: &LogEvent)
+        ensures { self.new ≡ with_event self.old line event.now }
     {
-        NodeTally {
-            events: one_more(self.events),
-            furthest: furthest_with(self.furthest, line, claimed_ahead(event)),
-        }
+        self.events = one_more(self.events);
+        take_claim(&mut self.furthest, line, claimed_ahead(event));
     }
 }

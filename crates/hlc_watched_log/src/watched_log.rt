@@ -12,9 +12,9 @@ use crate::event_rows::{is_over, write_bad, write_event};
 use crate::file_lines::FileLines;
 use crate::found::found_in;
 use crate::log_names::LogNames;
-use crate::named_event::{message_name, unwatched};
+use crate::named_event::{kind_of, message_name, unwatched};
 use crate::node_tally::{NodeTally, claimed_ahead, one_more};
-use crate::numbers::{MessageNames, name_number, no_messages, number_kind};
+use crate::numbers::name_number;
 use crate::skews::{ShownSkews, take_skews};
 use crate::summary::write_summary;
 use crate::watch_counts::WatchCounts;
@@ -26,22 +26,21 @@ use hlc_log_text::{
     BadLog, Extras, NODE_PLACE, NameKey, NameSet, NodeNames, RecordHead, RecordItem,
 };
 use hlc_stamp::NodeId;
-use hlc_watch::{RuledEvent, Watch};
+use hlc_watch::{Complete, RuledEvent, Watch};
 use std::alloc::{AllocError, Global};
 use std::collections::BTreeMap;
 use std::io::Write;
 use std::marker::Model;
 
-// The names of nodes and files, where the lines of these stand, what is counted of each node, the names of the latest messages, how many events came,
-// what is kept of these, and the skews that they show.
+// The names of nodes and files, where the lines of these stand, what is counted of each node, how many events came, what is kept of these, and the
+// skews that they show.
 #[derive(Drop)]
 pub(crate) struct LogWatch {
     names: LogNames,
     files: FileLines,
     tallies: Vec<NodeTally>,
-    messages: MessageNames,
     events: u32,
-    watch: Watch,
+    watch: Watch<NameKey>,
     skews: ShownSkews,
     counts: WatchCounts,
     alloc: Global,
@@ -56,8 +55,6 @@ impl Model for LogWatch {
       names = w.names;
       files = w.files;
       tallies = w.tallies.items;
-      messages = w.messages.entries;
-      keep = w.messages.cap;
       events = w.events;
       kept = w.watch;
       skews = w.skews.entries;
@@ -106,8 +103,7 @@ impl LogWatch {
         ensures whole { IfOk result IsWhole }
     {
         let files = FileLines::new(alloc)?;
-        let messages = no_messages(alloc, rules.keep, key)?;
-        let watch = Watch::new(alloc, rules.keep)?;
+        let watch = Watch::new(alloc, rules.keep, key)?;
         Ok(LogWatch {
             names: LogNames {
                 nodes: NodeNames::new(alloc, key),
@@ -115,7 +111,6 @@ impl LogWatch {
             },
             files,
             tallies: Vec::new(alloc),
-            messages,
             events: 0,
             watch,
             skews: BTreeMap::new(alloc),
@@ -207,9 +202,9 @@ impl LogWatch {
     // Adds an event of a node and a message with these names, the number of the node being known, and tells of it. Gives it by numbers.
     fn add<W: Write>(
         &mut self,
-        rules: WatchRules,
-        head: RecordHead,
-        extras: Extras,
+        rules: &WatchRules,
+        head: &RecordHead,
+        extras: &Extras,
         node: &[u8],
         number: usize,
         message: &[u8],
@@ -219,27 +214,20 @@ impl LogWatch {
         requires few { number < MAX_LOG_NODES }
         requires whole { IsWhole self.old }
         requires room { self.old.events < 2 ^ 32 - 1 }
-        requires small { IsSmallCarried extras.carried }
-        ensures event { IfOk result (λ event. event ≡ event_by self.old head extras node.now message.now) }
-        ensures kept { IfOk result (λ event. self.new ≡ with_event rules self.old head.word node.now message.now event) }
+        requires small { IsSmallCarried extras.now.carried }
+        ensures event { IfOk result (λ event. event ≡ event_by self.old head.now extras.now node.now) }
+        ensures kept { IfOk result (λ event. self.new ≡ with_event rules.now self.old node.now message.now event) }
         ensures told { IfOk result (λ event. Appends (W.contents writer.old) (W.contents writer.new)
-            (text_of (event_rows rules self.new.names (complete_as rules self.old.kept self.old.files.current event) (line_here self.old.files) event))) }
+            (text_of (event_rows rules.now self.new.names (complete_as rules.now self.old.kept self.old.files.current event message.now) (line_here self.old.files) event))) }
         ensures whole { OnOk result (IsWhole self.new) }
     {
         let line = self.files.line_here();
         add_node(&mut self.names.nodes, &mut self.tallies, node, number)?;
-        let kind = number_kind(
-            self.alloc,
-            &mut self.messages,
-            head.word,
-            message,
-            self.events,
-        )?;
         let event = LogEvent {
             node: NodeId(number as u16),
             reading: head.reading,
             has_reading: head.has_reading,
-            kind,
+            kind: kind_of(head.word),
             stamp: head.stamp,
             has_stamp: head.has_stamp,
             carried: extras.carried,
@@ -247,9 +235,13 @@ impl LogWatch {
             line: line.number,
         };
         self.events += 1;
-        self.tallies[number] = self.tallies[number].with_event(line, &event);
+        self.tallies[number].take(line, &event);
         let ruled = RuledEvent::new(rules.records.receives, line.file, &event);
-        let complete = self.watch.event(ruled)?;
+        let mut complete = Complete {
+            event: None,
+            waited: Vec::new(self.alloc),
+        };
+        self.watch.event(&ruled, message, &mut complete)?;
         take_skews(&mut self.skews, &complete)?;
         let found = found_in(rules.records.form.full(), &complete);
         let over_limit = is_over(rules.limit, claimed_ahead(&event));
@@ -271,16 +263,16 @@ impl LogWatch {
     // Adds an event and tells of it, or tells why it can't be watched. Its names stand in these fields.
     fn take_event<W: Write>(
         &mut self,
-        rules: WatchRules,
-        head: RecordHead,
-        extras: Extras,
+        rules: &WatchRules,
+        head: &RecordHead,
+        extras: &Extras,
         placed: &ByteRecord,
         writer: &mut W,
     ) -> Result<Option<BadLog>, OutputFault>
         requires whole { IsWhole self.old }
         requires room { self.old.events < 2 ^ 32 - 1 }
-        requires small { IsSmallCarried extras.carried }
-        ensures taken { IfOk result (TakesEvent rules head extras (fields_of placed.now) self.old
+        requires small { IsSmallCarried extras.now.carried }
+        ensures taken { IfOk result (TakesEvent rules.now head.now extras.now (fields_of placed.now) self.old
             (W.contents writer.old) (W.contents writer.new) self.new) }
         ensures whole { OnOk result (IsWhole self.new) }
         ensures counted { OnOk result (self.new.events ≤ self.old.events + 1) }
@@ -305,15 +297,15 @@ impl LogWatch {
     // Takes what a record says, or tells why it is bad.
     fn take_item<W: Write>(
         &mut self,
-        rules: WatchRules,
-        item: RecordItem,
+        rules: &WatchRules,
+        item: &RecordItem,
         placed: &ByteRecord,
         writer: &mut W,
     ) -> Result<Option<BadLog>, OutputFault>
         requires whole { IsWhole self.old }
         requires room { self.old.events < 2 ^ 32 - 1 }
-        requires small { IsSmallTold item }
-        ensures taken { IfOk result (TakesItem rules (Ok item) (fields_of placed.now) self.old (W.contents writer.old) (W.contents writer.new) self.new) }
+        requires small { IsSmallTold item.now }
+        ensures taken { IfOk result (TakesItem rules.now (Ok item.now) (fields_of placed.now) self.old (W.contents writer.old) (W.contents writer.new) self.new) }
         ensures whole { OnOk result (IsWhole self.new) }
         ensures counted { OnOk result (self.new.events ≤ self.old.events + 1) }
     {
@@ -328,21 +320,21 @@ impl LogWatch {
     // The same, if it isn't bad itself.
     fn take_told<W: Write>(
         &mut self,
-        rules: WatchRules,
-        told: Result<RecordItem, BadLog>,
+        rules: &WatchRules,
+        told: &Result<RecordItem, BadLog>,
         placed: &ByteRecord,
         writer: &mut W,
     ) -> Result<Option<BadLog>, OutputFault>
         requires whole { IsWhole self.old }
         requires room { self.old.events < 2 ^ 32 - 1 }
-        requires small { HasSmallCarried told }
-        ensures taken { IfOk result (TakesItem rules told (fields_of placed.now) self.old (W.contents writer.old) (W.contents writer.new) self.new) }
+        requires small { HasSmallCarried told.now }
+        ensures taken { IfOk result (TakesItem rules.now told.now (fields_of placed.now) self.old (W.contents writer.old) (W.contents writer.new) self.new) }
         ensures whole { OnOk result (IsWhole self.new) }
         ensures counted { OnOk result (self.new.events ≤ self.old.events + 1) }
     {
         match told {
             Ok(item) => self.take_item(rules, item, placed, writer),
-            Err(why) => Ok(Some(why)),
+            Err(why) => Ok(Some(*why)),
         }
     }
 
@@ -364,15 +356,15 @@ impl LogWatch {
     // Takes what a record was read as, and answers it. If it is bad and isn't left out, that ends the watch.
     pub(crate) fn take<W: Write>(
         &mut self,
-        rules: WatchRules,
-        told: Result<RecordItem, BadLog>,
+        rules: &WatchRules,
+        told: &Result<RecordItem, BadLog>,
         placed: &ByteRecord,
         writer: &mut W,
     ) -> Result<Option<BadLog>, OutputFault>
         requires whole { IsWhole self.old }
         requires room { self.old.events < 2 ^ 32 - 1 }
-        requires small { HasSmallCarried told }
-        ensures taken { IfOk result (Takes rules told (fields_of placed.now) self.old (W.contents writer.old) (W.contents writer.new) self.new) }
+        requires small { HasSmallCarried told.now }
+        ensures taken { IfOk result (Takes rules.now told.now (fields_of placed.now) self.old (W.contents writer.old) (W.contents writer.new) self.new) }
         ensures whole { OnOk result (IsWhole self.new) }
         ensures counted { OnOk result (self.new.events ≤ self.old.events + 1) }
     {

@@ -1,9 +1,8 @@
 // A log that is watched to its end.
 
-ghost use Rattle.std.specs.Prelude.{◌≡◌, ◌+◌, ◌-◌, ◌^◌, ◌<◌, ◌≤◌, ◌∷◌, IfOk, List, OnOk, Option, [], ℕ, length, option_map};
+ghost use Rattle.std.specs.Prelude.{◌≡◌, ◌+◌, ◌-◌, ◌^◌, ◌<◌, ◌≤◌, ◌∷◌, IfOk, List, OnOk, Option, [], ℕ, length};
 ghost use Rattle.csv.specs.Records.{fields_of};
 ghost use Rattle.hlc_csv.specs.RecordReader.{HasReadTo, ReadsRecord};
-ghost use Rattle.hlc_log_text.specs.FileMarks.{begun_file};
 ghost use Rattle.hlc_log_text.specs.LogHeader.{HasSmallCarried};
 ghost use Rattle.hlc_log_text.specs.LogItem.{LogItem};
 ghost use Rattle.hlc_watched_log.specs.Answered.{Answers, AreHeadersAfter, ReadsNext};
@@ -16,11 +15,9 @@ use crate::outcome::WatchOutcome;
 use crate::watch_rules::WatchRules;
 use crate::watched_log::LogWatch;
 use csv::ByteRecord;
-use hlc_csv::{
-    FoundRecord, LAST_LINE, OutputFault, RecordFault, RecordReader, RecordsFault, field,
-};
+use hlc_csv::{FoundRecord, LAST_LINE, OutputFault, RecordFault, RecordReader, RecordsFault};
 use hlc_log::Resent;
-use hlc_log_text::{BadLog, LogHeader, LogRules, NameKey, RecordItem, file_name};
+use hlc_log_text::{BadLog, LogHeader, LogRules, NameKey, RecordItem, begun_file};
 use std::alloc::{AllocError, Global};
 use std::io::{Read, Write};
 
@@ -77,17 +74,6 @@ fn next_record<R: Read + Drop>(
     }
 }
 
-// The name of the file that a record marks, if it marks one.
-fn begun_file(fields: &ByteRecord) -> Option<&[u8]>
-    ensures { option_map (λ name. name.now) result ≡ begun_file (fields_of fields.now) }
-{
-    if fields.len() == 1 {
-        file_name(field(fields, 0))
-    } else {
-        None
-    }
-}
-
 // What has to be kept of the files so that their next records can be read: nothing was read of the first.
 fn first_headers(alloc: Global) -> Result<Vec<LogHeader>, AllocError>
     ensures headers { IfOk result (λ headers. AreHeadersAfter ([] ∷ []) headers.items) }
@@ -132,7 +118,7 @@ fn take_next<W: Write>(
     fields: &mut ByteRecord,
     placed: &mut ByteRecord,
     log: &mut LogWatch,
-    rules: WatchRules,
+    rules: &WatchRules,
     line: u32,
     writer: &mut W,
 ) -> Result<Option<BadLog>, OutputFault>
@@ -140,7 +126,7 @@ fn take_next<W: Write>(
     requires headers { length headers.old.items ≡ length log.old.files.counted }
     requires room { log.old.events < 2 ^ 32 - 1 }
     requires few { length log.old.files.counted < 2 ^ 32 - 1 }
-    ensures answers { IfOk result (Answers rules headers.old.items log.old (fields_of fields.old, line) (W.contents writer.old) (W.contents writer.new)
+    ensures answers { IfOk result (Answers rules.now headers.old.items log.old (fields_of fields.old, line) (W.contents writer.old) (W.contents writer.new)
         headers.new.items log.new) }
     ensures whole { OnOk result (IsWhole log.new) }
     ensures counted { OnOk result (log.new.events ≤ log.old.events + 1) }
@@ -153,7 +139,7 @@ fn take_next<W: Write>(
     log.move_to(line);
     let file = log.file() as usize;
     let told = read_told(alloc, headers, file, rules.records, fields, placed)?;
-    log.take(rules, told, placed, writer)
+    log.take(rules, &told, placed, writer)
 }
 
 // Watches the records of a log to its end. What comes of it holds of the bytes which the reader began with.
@@ -164,15 +150,15 @@ fn watch_records<R: Read + Drop, W: Write>(
     fields: &mut ByteRecord,
     placed: &mut ByteRecord,
     log: &mut LogWatch,
-    rules: WatchRules,
+    rules: &WatchRules,
     writer: &mut W,
 ) -> Result<WatchOutcome, RecordsFault>
-    requires nothing { log.old ≡ no_events rules.keep }
+    requires nothing { log.old ≡ no_events rules.now.keep }
     requires whole { IsWhole log.old }
     requires headers { AreHeadersAfter ([] ∷ []) headers.old.items }
     requires one { length headers.old.items ≡ 1 }
     ensures { IfOk result (λ outcome. (bytes : Option (List ℕ)) → HasReadTo R.remaining input.old bytes [] []
-        → IsWatched rules bytes (W.contents writer.old) (W.contents writer.new) outcome) }
+        → IsWatched rules.now bytes (W.contents writer.old) (W.contents writer.new) outcome) }
 {
     for _count in 0..LAST_LINE {
         let Some(found) = next_record(input, fields)? else {
@@ -220,7 +206,7 @@ pub fn watch_log<R: Read + Drop, W: Write>(
         &mut fields,
         &mut placed,
         &mut log,
-        rules,
+        &rules,
         writer,
     )
 }

@@ -21,8 +21,8 @@ returns g c =
     let full = c.full-full.result in
     let first = flat_map (cause_rows names full) (if_any complete.event) in
     let later = flat_map (cause_rows names full) c.deref.result.now in
-    let over = row_if (is_over c.args.rules.limit (claimed_ahead event)) (over_row names c.args.line event) in
-    let all : first ++ (later ++ over) ≡ event_rows c.args.rules names (complete_in complete) c.args.line event =
+    let over = row_if (is_over c.args.rules.now.limit (claimed_ahead event)) (over_row names c.args.line event) in
+    let all : first ++ (later ++ over) ≡ event_rows c.args.rules.now names (complete_in complete) c.args.line event =
     ap (λ (waited : List Records). first ++ (flat_map (cause_rows names full) waited ++ over)) c.deref.ensures.value
     ∙ sym (append_assoc first (flat_map (cause_rows names full) complete.waited.items) over)
     ∙ ap (λ (rows : List Fields). rows ++ over) (sym (flat_map-append (cause_rows names full) (if_any complete.event) complete.waited.items))

@@ -12,7 +12,7 @@ pub returns-then-not-told : goal.returns-then-not-told
 returns-then-not-told g c =
     let before = g.W.Write.contents c.args.writer.now in
     let none =
-    no_event_rows c.args.rules c.args.names.now (complete_in c.args.complete.now) c.args.line c.args.event.now (grind (arith, c.requires.told, c.if-not-told.true)) in
+    no_event_rows c.args.rules.now c.args.names.now (complete_in c.args.complete.now) c.args.line c.args.event.now (grind (arith, c.requires.told, c.if-not-told.true)) in
     subst (λ (rows : List Fields). Appends before before (text_of rows)) (sym none) (appends_none before)
 
 pub returns : goal.returns

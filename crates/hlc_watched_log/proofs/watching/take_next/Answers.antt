@@ -16,7 +16,7 @@ returns-clause-answers g c =
     let at = g.W.Write.contents in
     let file = c.file-file.ensures.file ∙ ap (λ (l : WatchedLog). l.files.current) c.move_to.ensures in
     IfOk-weaker c.take.result _ _ (λ ends takes items are.
-    record_answered c.args.rules items c.args.log.now (fields_of c.args.fields.now) c.args.line (at c.args.writer.now) (at c.take.new.writer)
+    record_answered c.args.rules.now items c.args.log.now (fields_of c.args.fields.now) c.args.line (at c.args.writer.now) (at c.take.new.writer)
     c.read_told.new.headers.items c.take.new.self c.args.headers.now.items are c.file-file.result (fields_of c.read_told.new.placed) c.in_ok-told.told ends
     (rw c.in_default.is at c.begun_file.ensures) file c.in_ok-told.ensures.said takes)
     (rw c.move_to.ensures at c.take.ensures.taken)

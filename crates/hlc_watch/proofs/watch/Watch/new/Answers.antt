@@ -4,7 +4,7 @@ use Rattle.hlc_watch.specs.Kept.{KeptMessages}
 use Rattle.hlc_watch.proofs.watch.Watch.new.Goals as goal
 
 pub returns : goal.returns
-returns c =
+returns g c =
     let last : c.in_ok-vec.field-0.items ≡ replicate 65536 None =
     c.in_ok-vec.ensures.items_if_clones_equal (elim [ None ↦ λ same. refl | Some claimed ↦ λ same. absurd same ]) in
     ap (λ (l : List (Option Claimed)). record { last = l; messages = c.in_ok-new.field-0 }) last

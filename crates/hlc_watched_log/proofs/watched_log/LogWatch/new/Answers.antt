@@ -4,7 +4,7 @@ use Rattle.hlc_watched_log.proofs.watched_log.LogWatch.new.Goals as goal
 
 pub returns-clause-nothing : goal.returns-clause-nothing
 returns-clause-nothing c =
-    rw (c.in_ok-files.ensures, c.in_ok-messages.ensures, c.in_ok-watch.ensures, c.new-3.ensures, c.new-4.ensures, c.new-5.ensures.items, c.new-6.ensures.empty, c.new-7.ensures) refl
+    rw (c.in_ok-files.ensures, c.in_ok-watch.ensures, c.new-3.ensures, c.new-4.ensures, c.new-5.ensures.items, c.new-6.ensures.empty, c.new-7.ensures) refl
 
 pub returns-clause-whole : goal.returns-clause-whole
 returns-clause-whole c =

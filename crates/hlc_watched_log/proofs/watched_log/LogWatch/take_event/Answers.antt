@@ -11,10 +11,10 @@ use Rattle.hlc_watched_log.proofs.watched_log.LogWatch.take_event.Goals as goal
 
 pub returns-clause-taken : goal.returns-clause-taken
 returns-clause-taken g c named is =
-    let rules = c.args.rules in
+    let rules = c.args.rules.now in
     let old = c.args.self.now in
-    let head = c.args.head in
-    let extras = c.args.extras in
+    let head = c.args.head.now in
+    let extras = c.args.extras.now in
     let placed = fields_of c.args.placed.now in
     let at = g.W.Write.contents in
     let node_is = c.field-node.ensures in
@@ -25,9 +25,11 @@ returns-clause-taken g c named is =
     sym c.in_default.is ∙ c.unwatched.ensures
     ∙ (λ i. unwatched_by rules.records.form head.word head.has_stamp (message_is i) ((number ∙ ap (name_number old.names.nodes) node_is) i)) in
     let added = c.in_ok-add.field-0 in
-    let event = c.in_ok-add.ensures.event ∙ (λ i. event_by (same i) head extras (node_is i) (message_is i)) in
-    let complete = ap (λ (l : WatchedLog). complete_as rules l.kept l.files.current added) same in
-    let kept = c.in_ok-add.ensures.kept ∙ (λ i. with_event rules (same i) head.word (node_is i) (message_is i) added) in
+    let event = c.in_ok-add.ensures.event ∙ (λ i. event_by (same i) head extras (node_is i)) in
+    let complete =
+    ap (λ (l : WatchedLog). complete_as rules l.kept l.files.current added c.message_name-message.result.now) same
+    ∙ ap (complete_as rules old.kept old.files.current added) message_is in
+    let kept = c.in_ok-add.ensures.kept ∙ (λ i. with_event rules (same i) (node_is i) (message_is i) added) in
     let line = ap (λ (l : WatchedLog). line_here l.files) same ∙ sym (ap (λ (l : WatchedLog). line_here l.files) kept) in
     subst (λ (n : NamedEvent). (let o : Option BadLog = None in o ≡ unwatched rules.records.form old.names.nodes n) × TakesOr rules old (Option.Some n) (at c.args.writer.now) (at c.sum_up_if_due.new.writer) c.add.new.self None)
     (sym is.2)

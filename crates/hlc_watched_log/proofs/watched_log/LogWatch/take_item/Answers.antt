@@ -15,6 +15,6 @@ returns-in-Event-clause-taken g c =
     let new = c.take_event.new.self in
     let before = at c.args.writer.now in
     let after = at c.take_event.new.writer in
-    subst (λ (item : RecordItem). IfOk c.take_event.result (TakesItem c.args.rules (Ok item) placed old before after new)) (sym c.in-Event.is)
+    subst (λ (item : RecordItem). IfOk c.take_event.result (TakesItem c.args.rules.now (Ok item) placed old before after new)) (sym c.in-Event.is)
     (IfOk-weaker c.take_event.result _ _ (λ found takes.
-    item_taken c.args.rules c.in-Event.head c.in-Event.extras placed old before after new found takes) c.take_event.ensures.taken)
+    item_taken c.args.rules.now c.in-Event.head c.in-Event.extras placed old before after new found takes) c.take_event.ensures.taken)
