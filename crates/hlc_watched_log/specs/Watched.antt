@@ -159,6 +159,10 @@ over_row names line event =
 abbrev pub complete_as : WatchRules → KeptLog → (file : ℕ) → LogEvent → (message : List ℕ) → List Records
 complete_as rules kept file event message = told_as kept (ruled_by rules.records.receives file event) message
 
+-- the same, of an event that comes next
+abbrev pub complete_next : WatchRules → WatchedLog → LogEvent → (message : List ℕ) → List Records
+complete_next rules log event message = complete_as rules log.kept log.files.current event message
+
 -- what is counted, with an event more
 abbrev pub counts_after : WatchRules → WatchCounts → (complete : List Records) → LogEvent → WatchCounts
 counts_after rules before complete event =
@@ -172,8 +176,8 @@ with_event rules log node message event = record {
   tallies = tallies_after log.tallies (line_here log.files) event;
   events = log.events + 1;
   kept = after_event log.kept (ruled_by rules.records.receives log.files.current event) message;
-  skews = skews_after log.skews (complete_as rules log.kept log.files.current event message);
-  counts = counts_after rules log.counts (complete_as rules log.kept log.files.current event message) event;
+  skews = skews_after log.skews (complete_next rules log event message);
+  counts = counts_after rules log.counts (complete_next rules log event message) event;
 }
 
 -- so of one that a record tells of
@@ -209,7 +213,7 @@ told_rows rules log None = []
 told_rows rules log (Some named) =
     let next = with_named rules log named in
     let event = event_on log named in
-    event_rows rules next.names (complete_as rules log.kept log.files.current event (message_of named)) (line_here log.files) event ++ due_rows rules.every next
+    event_rows rules next.names (complete_next rules log event (message_of named)) (line_here log.files) event ++ due_rows rules.every next
 
 -- what one is answered with that is to say this, and is bad for that reason, if it is
 abbrev pub rows_by : WatchRules → WatchedLog → Option BadLog → Option NamedEvent → List Fields

@@ -101,7 +101,8 @@ fn push_event<W: Write>(
     event: &LogEvent,
     writer: &mut W,
 ) -> Result<(), OutputFault>
-    ensures { OnOk result (AddsRows W.contents writer.old writer.new rows.old rows.new (event_rows rules.now names.now (complete_in complete.now) line event.now)) }
+    ensures { OnOk result (AddsRows W.contents writer.old writer.new rows.old rows.new
+        (event_rows rules.now names.now (complete_in complete.now) line event.now)) }
 {
     let full = rules.records.form.full();
     push_first(alloc, rows, names, full, complete.event, writer)?;

@@ -91,7 +91,7 @@ impl LogWatch {
     ghost use Rattle.hlc_watched_log.specs.Taken.{IsWhole, Takes, TakesEvent, TakesItem};
     ghost use Rattle.hlc_watched_log.specs.Files.{line_here};
     ghost use Rattle.hlc_watched_log.specs.Numbers.{name_number};
-    ghost use Rattle.hlc_watched_log.specs.Watched.{bad_row, complete_as, due_rows, event_by, event_rows, in_file, no_events, on_line, summary_rows, with_event, without_bad};
+    ghost use Rattle.hlc_watched_log.specs.Watched.{bad_row, complete_next, due_rows, event_by, event_rows, in_file, no_events, on_line, summary_rows, with_event, without_bad};
 
     // Nothing came.
     pub(crate) fn new(
@@ -218,7 +218,7 @@ impl LogWatch {
         ensures event { IfOk result (λ event. event ≡ event_by self.old head.now extras.now node.now) }
         ensures kept { IfOk result (λ event. self.new ≡ with_event rules.now self.old node.now message.now event) }
         ensures told { IfOk result (λ event. Appends (W.contents writer.old) (W.contents writer.new)
-            (text_of (event_rows rules.now self.new.names (complete_as rules.now self.old.kept self.old.files.current event message.now) (line_here self.old.files) event))) }
+            (text_of (event_rows rules.now self.new.names (complete_next rules.now self.old event message.now) (line_here self.old.files) event))) }
         ensures whole { OnOk result (IsWhole self.new) }
     {
         let line = self.files.line_here();
@@ -305,7 +305,8 @@ impl LogWatch {
         requires whole { IsWhole self.old }
         requires room { self.old.events < 2 ^ 32 - 1 }
         requires small { IsSmallTold item.now }
-        ensures taken { IfOk result (TakesItem rules.now (Ok item.now) (fields_of placed.now) self.old (W.contents writer.old) (W.contents writer.new) self.new) }
+        ensures taken { IfOk result (TakesItem rules.now (Ok item.now) (fields_of placed.now) self.old
+            (W.contents writer.old) (W.contents writer.new) self.new) }
         ensures whole { OnOk result (IsWhole self.new) }
         ensures counted { OnOk result (self.new.events ≤ self.old.events + 1) }
     {
