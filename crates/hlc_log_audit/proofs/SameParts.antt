@@ -1,11 +1,10 @@
 -- What is opened of a log is one thing, if some order has it.
-use Rattle.std.proofs.Common.{◌≡◌, ◌≢◌, ◌∙◌, ◌<◌, ℕ, List, [], ◌∷◌, Option, None, Some, ap, arith, refl, sym, subst}
-use Rattle.std.specs.Prelude.{◌↔◌, Contains, map}
+use Rattle.std.proofs.Common.{◌≡◌, ◌≢◌, ◌∙◌, ℕ, List, [], ◌∷◌, Option, None, Some, ap, arith, refl, sym, subst}
+use Rattle.std.specs.Prelude.{Contains, map}
 use Rattle.hlc_explain.proofs.Findings.{rising_is_unique}
 use Rattle.hlc_stamp.specs.declared.id.EventId.{EventId}
 use Rattle.hlc_log.specs.CausalOrder.{IsCausalOrder}
 use Rattle.hlc_log.specs.Faults.{IsFaultOf}
-use Rattle.hlc_log.specs.Messages.{AreMessagesSound}
 use Rattle.hlc_log.specs.Parted.{AreThoseWith}
 use Rattle.hlc_log.specs.StandingOrder.{arranged}
 use Rattle.hlc_log.specs.declared.log_event.LogEvent.{LogEvent}

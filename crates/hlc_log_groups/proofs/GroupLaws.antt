@@ -22,7 +22,7 @@ use Rattle.hlc_ordered_log.specs.InOrder.{LogInOrder}
 use Rattle.hlc_log_text.specs.declared.file_mark.FileMark.{FileMark}
 use Rattle.hlc_log_audit.specs.Report.{cause_row, cause_rows_at, wrong_at, wrong_row}
 use Rattle.hlc_log_groups.specs.Followed.{followed_at, followed_in, greater_of, pair_after, unless_below}
-use Rattle.hlc_log_groups.specs.Groups.{KeyedCauses, cause_at, group_at, id_of, is_same_key, keyed_at, places_with}
+use Rattle.hlc_log_groups.specs.Groups.{KeyedCauses, cause_at, group_at, id_of, keyed_at, places_with}
 use Rattle.hlc_log_groups.specs.Laws.{GroupsAddUp, NoGroupIsEmpty, RulePairFollows}
 use Rattle.hlc_log_groups.specs.declared.broken_rule.BrokenRule.TheVariants as rule
 use Rattle.hlc_log_groups.specs.declared.cause_group.CauseGroup.{CauseGroup}

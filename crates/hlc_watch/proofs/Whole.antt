@@ -1,5 +1,5 @@
 -- Where no more events come than messages are kept, nothing is forgotten.
-use Rattle.std.proofs.Common.{◌≡◌, ◌≢◌, ◌∙◌, ℕ, zero, suc, ◌<◌, ◌≤◌, ◌⊎◌, true, false, List, [], ◌∷◌, ◌++◌, Option, Some, None, IsSome, length, map, Contains, arith, inl, inr, refl, sym, ap, subst}
+use Rattle.std.proofs.Common.{◌≡◌, ◌≢◌, ◌∙◌, ℕ, zero, suc, ◌<◌, ◌≤◌, ◌⊎◌, List, [], ◌∷◌, ◌++◌, Option, Some, None, IsSome, length, map, Contains, arith, inl, inr, refl, sym, ap, subst}
 use Rattle.std.specs.Prelude.{if◌then◌else◌, bytes_eq, max, unwrap_or}
 use Rattle.std.specs.Cmp.Lexicographic.{nat_list_eq_equiv}
 use Rattle.std.specs.Map.{lookup, remove_entry}
@@ -25,7 +25,7 @@ use Rattle.hlc_watch.specs.Laws.{AreFewNodes, IsToldAt, TellsAll, if_any, kept_a
 use Rattle.hlc_watch.specs.Records.{role_of, with_send}
 use Rattle.hlc_watch.specs.Watching.{KeptLog, after_event, after_role, event_told, no_log, waited_told}
 use Rattle.hlc_watch.proofs.Bounds.{count-with_receive, count-remove}
-use Rattle.hlc_watch.proofs.Entries.{differ_by_test, is_name, same_name, length-promoted, length-put, lookup-others, lookup-promoted, lookup-put_others}
+use Rattle.hlc_watch.proofs.Entries.{differ_by_test, same_name, length-promoted, length-put, lookup-others, lookup-promoted, lookup-put_others}
 use Rattle.hlc_watch.proofs.Knowledge.{IsKnown, known_after, own, own_is}
 
 mapped_there : {X Y : Type 0} (f : X → Y) (xs : List X) (x : X) → Contains xs x → Contains (map f xs) (f x)

@@ -1,5 +1,5 @@
 -- What is kept of the events that records add is what a watch keeps of them.
-use Rattle.std.proofs.Common.{◌≡◌, ◌∙◌, ◌<◌, ◌≤◌, ◌++◌, ◌∷◌, [], List, Option, Some, None, ℕ, zero, suc, Contains, append-nil, append_assoc, ap, arith, get_or, length, length-append, map, refl, subst, sym}
+use Rattle.std.proofs.Common.{◌≡◌, ◌∙◌, ◌<◌, ◌≤◌, ◌++◌, ◌∷◌, [], List, Option, Some, None, ℕ, zero, suc, Contains, append-nil, append_assoc, ap, arith, get_or, length, length-append, refl, subst, sym}
 use Rattle.std.proofs.Math.ListN.{get_or-append}
 use Rattle.std.proofs.Math.Seq.{get_or-append_seam}
 use Rattle.std.proofs.lemmas.List.{get_or-map}

@@ -1,7 +1,6 @@
 -- The numbers of messages, by the events that come with their names first.
-use Rattle.std.proofs.Common.{◌≡◌, ◌∙◌, ◌<◌, ◌≤◌, ◌⊎◌, Bool, true, false, List, ℕ, ap, arith, get_or, inl, inr, length, refl, sym}
+use Rattle.std.proofs.Common.{◌≡◌, ◌∙◌, ◌<◌, ◌≤◌, Bool, true, false, List, ℕ, ap, arith, inl, inr, length, refl, sym}
 use Rattle.std.specs.Prelude.{bytes_eq}
-use Rattle.std.specs.List.{position_or_len}
 use Rattle.std.proofs.lemmas.Bool.{cases_order}
 use Rattle.std.proofs.lemmas.List.{get_or-map, length-map}
 use Rattle.std.proofs.lemmas.List.Sums.{fails_before_first, passes_at_first}
@@ -11,7 +10,7 @@ use Rattle.hlc_log.specs.declared.log_event.LogKind.TheVariants as kind
 use Rattle.hlc_log.specs.declared.message_id.MessageId.{MessageId}
 use Rattle.hlc_log.specs.Events.{event_at, no_event}
 use Rattle.hlc_watch.specs.Coming.{HasMessage}
-use Rattle.hlc_watched_log.specs.Laws.{FileEvent, NamesTellApart, events_of, message_number, name_at, numbered, numbered_kind}
+use Rattle.hlc_watched_log.specs.Laws.{FileEvent, NamesTellApart, events_of, message_number, numbered, numbered_kind}
 use Rattle.hlc_watched_log.proofs.EventsKept.{item_at, name_here, no_item}
 
 sent_number : (number m : ℕ) (other : LogKind) → numbered_kind number other ≡ kind.Send (record { 0 = m }) → m ≡ number

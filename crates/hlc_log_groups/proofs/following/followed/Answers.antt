@@ -4,7 +4,6 @@ use Rattle.hlc_stamp.specs.declared.id.EventId.{EventId}
 use Rattle.hlc_stamp.specs.Order.{Pair}
 use Rattle.hlc_causality.specs.Causality.{Skeleton}
 use Rattle.hlc_causality.specs.ClockEvents.{ClockEvents, clock_event_at, clock_skeleton}
-use Rattle.hlc_causality.specs.Predecessors.{previous_of}
 use Rattle.hlc_ordered_log.specs.InOrder.{clocks_of}
 use Rattle.hlc_ordered_log.proofs.EventsInOrder.{length-claimed_of, length-seen_of, length-skeleton_of}
 use Rattle.hlc_log_groups.specs.Followed.{greater_of, unless_below}

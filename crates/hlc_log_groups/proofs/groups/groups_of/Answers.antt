@@ -1,4 +1,4 @@
-use Rattle.std.proofs.Common.{◌≡◌, ℕ, ◌+◌, [], ◌∷◌, ◌++◌, length, arith, subst, sym, ap}
+use Rattle.std.proofs.Common.{◌≡◌, ℕ, [], ◌∷◌, ◌++◌, length, arith, subst, sym, ap}
 use Rattle.hlc_log_audit.specs.Report.{AreCausesBefore}
 use Rattle.hlc_log_audit.proofs.CauseRows.{causes_push, no_answers}
 use Rattle.hlc_log_groups.specs.Groups.{AreGroups, KeyedCauses, keyed_in, total}
