@@ -16,11 +16,12 @@ use Rattle.hlc_watch.specs.declared.message_role.MessageRole.TheVariants.{Local,
 use Rattle.hlc_watch.specs.declared.records.Claimed.{Claimed}
 use Rattle.hlc_watch.specs.declared.records.Records.{Records}
 use Rattle.hlc_watch.specs.Coming.{ruled_at}
-use Rattle.hlc_watch.specs.Kept.{IsBounded, KeptMessages, received_from, receive_count, waiting_for, with_latest, with_receive, without_last}
+use Rattle.hlc_watch.specs.Kept.{IsBounded, KeptMessages, received_from, receive_count, waiting_for, send_of, with_latest, with_receive, with_sent, without_last}
 use Rattle.hlc_watch.specs.Laws.{StaysSmall, kept_after}
 use Rattle.hlc_watch.specs.Records.{claimed_by}
 use Rattle.hlc_watch.specs.Watching.{after_role, records_of}
-use Rattle.hlc_watch.proofs.Entries.{length-promoted, length-put-cap}
+use Rattle.indexmap.specs.IndexMap.{insert_entry}
+use Rattle.hlc_watch.proofs.Entries.{length-latest}
 
 pub waiting_length : (o : Option (List Records)) → length (unwrap_or o []) ≡ unwrap_or (option_map length o) 0
 waiting_length None = refl
@@ -106,8 +107,8 @@ module _ (keep : ℕ) (m : List ℕ) (awaited : List (List ℕ × List Records))
 
 -- what is kept is bounded
 record AreBounded (keep : ℕ) (messages : KeptMessages) : Type 0 where
-  pub keep_is : messages.keep ≡ keep
-  pub sent : length messages.sent ≤ keep
+  pub keep_is : messages.sent.keep ≡ keep
+  pub sent : length messages.sent.sends ≤ keep
   pub awaited : IsBounded keep messages.awaited
 
 module _ (keep : ℕ) (some : 0 < keep) (messages : KeptMessages) (bounded : AreBounded keep messages) (records : Records) where
@@ -119,7 +120,7 @@ module _ (keep : ℕ) (some : 0 < keep) (messages : KeptMessages) (bounded : Are
   }
   after_found m (Some c) = record {
     keep_is = bounded.keep_is;
-    sent = let few = bounded.sent in let less = length-promoted m messages.sent in omega arith;
+    sent = bounded.sent;
     awaited = bounded.awaited;
   }
 
@@ -129,12 +130,11 @@ module _ (keep : ℕ) (some : 0 < keep) (messages : KeptMessages) (bounded : Are
     keep_is = bounded.keep_is;
     sent =
         let is = bounded.keep_is in
-        let few = bounded.sent in
-        let less = length-put-cap messages.keep m (claimed_by records.event) messages.sent (omega arith) (omega arith) in
+        let few = length-latest messages.sent.keep (insert_entry bytes_eq messages.sent.sends m (claimed_by records.event)) in
         omega arith;
     awaited = bounded_remove keep m messages.awaited bounded.awaited;
   }
-  after_any Receive m = after_found m (lookup (bytes_eq m) messages.sent)
+  after_any Receive m = after_found m (send_of messages.sent m)
 
 module _ (receives : Receives) (keep : ℕ) (files : ℕ → ℕ) (names : ℕ → List ℕ) (events : List LogEvent) (some : 0 < keep) (fits : keep < 2 ^ 32) where
   messages_bounded : (n : ℕ) → AreBounded keep (kept_after receives keep files names events n).messages

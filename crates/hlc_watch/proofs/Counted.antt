@@ -11,7 +11,7 @@ use Rattle.hlc_watch.specs.declared.message_role.MessageRole.TheVariants.{Local,
 use Rattle.hlc_watch.specs.declared.records.Claimed.{Claimed}
 use Rattle.hlc_watch.specs.declared.records.Records.{Records}
 use Rattle.hlc_watch.specs.Coming.{ruled_at}
-use Rattle.hlc_watch.specs.Kept.{KeptMessages, received_from, receive_count, records_with, waited_for, waiting_for, with_latest, with_receive, without_last}
+use Rattle.hlc_watch.specs.Kept.{KeptMessages, received_from, receive_count, records_with, send_of, waited_for, waiting_for, with_latest, with_receive, without_last}
 use Rattle.hlc_watch.specs.Laws.{EachIsCounted, if_any, kept_after, told_count}
 use Rattle.hlc_watch.specs.Records.{claimed_by, with_send}
 use Rattle.hlc_watch.specs.Watching.{after_role, event_told, records_of, waited_told}
@@ -49,7 +49,7 @@ module _ (messages : KeptMessages) (records : Records) (few : open_count message
   one_waits : (m : List ℕ) → open_count (received_from messages m records None) ≡ open_count messages + 1
   one_waits m =
       let more = count-with_receive messages.awaited m records in
-      let less = latest_fewer messages.keep messages.awaited m records in
+      let less = latest_fewer messages.sent.keep messages.awaited m records in
       omega arith
 
   one_received : (m : List ℕ) (o : Option Claimed) → length (if_any (records_with records o) ++ []) + open_count (received_from messages m records o) ≡ open_count messages + 1
@@ -66,7 +66,7 @@ module _ (messages : KeptMessages) (records : Records) (few : open_count message
   one_more : (role : MessageRole) (m : List ℕ) → IsOneMore role m
   one_more Local m = omega arith
   one_more Send m = one_sent m
-  one_more Receive m = one_received m (lookup (bytes_eq m) messages.sent)
+  one_more Receive m = one_received m (send_of messages.sent m)
 
 module _ (receives : Receives) (keep : ℕ) (files : ℕ → ℕ) (names : ℕ → List ℕ) (events : List LogEvent) where
   counted : (n : ℕ) → n < 2 ^ 64 → told_count receives keep files names events n + open_count (kept_after receives keep files names events n).messages ≡ n

@@ -5,8 +5,8 @@ use Rattle.std.specs.Map.{lookup, remove_entry}
 use Rattle.std.proofs.lemmas.Bool.{cases_Bool, eqb-true, eq-eqb}
 use Rattle.std.proofs.lemmas.List.{get_or-replicate, get_or-set_other, get_or-set_same, length-replicate, length-set}
 use Rattle.std.proofs.lemmas.List.Elements.{Contains-push_cases}
-use Rattle.lru.specs.LruCache.{lru_cache, promoted, put_entries}
-use Rattle.lru.proofs.CallerLemmas.{Contains-lookup, Contains-promoted, Contains-put_entries, Contains-remove_entry, Contains-take}
+use Rattle.indexmap.specs.IndexMap.{insert_entry}
+use Rattle.lru.proofs.CallerLemmas.{Contains-lookup, Contains-remove_entry, Contains-take}
 use Rattle.lru.proofs.Splits.{Contains-cons, Contains-nil}
 use Rattle.hlc_causality.specs.declared.receives.Receives.{Receives}
 use Rattle.hlc_log.specs.declared.log_event.LogEvent.{LogEvent}
@@ -18,11 +18,11 @@ use Rattle.hlc_log.specs.Messages.{Receives as ReceivesMessage, Sends}
 use Rattle.hlc_watch.specs.declared.records.Claimed.{Claimed}
 use Rattle.hlc_watch.specs.declared.records.Records.{Records}
 use Rattle.hlc_watch.specs.Coming.{NamesSender, TellApart, claimed_at, latest_of, records_at, ruled_at}
-use Rattle.hlc_watch.specs.Kept.{KeptMessages, received_from, records_with, waited_for, waiting_for, with_latest, with_receive, without_last, receive_count}
+use Rattle.hlc_watch.specs.Kept.{KeptMessages, received_from, records_with, send_of, waited_for, waiting_for, with_latest, with_receive, with_sent, without_last, receive_count}
 use Rattle.hlc_watch.specs.Laws.{AreFewNodes, AreRecordsOf, TellsRecords, if_any, kept_after, told_as}
 use Rattle.hlc_watch.specs.Records.{role_of, with_send}
 use Rattle.hlc_watch.specs.Watching.{KeptLog, after_event, after_role, event_told, last_at, no_log, records_of, waited_told}
-use Rattle.hlc_watch.proofs.Entries.{same_name}
+use Rattle.hlc_watch.proofs.Entries.{contains-latest, contains-put, same_name}
 
 contains_mapped : {X Y : Type 0} (f : X → Y) (xs : List X) (y : Y) → Contains (map f xs) y → (x : X) × Contains xs x × (f x ≡ y)
 contains_mapped f [] y there = absurd (Contains-nil y there)
@@ -73,7 +73,7 @@ module _ (receives : Receives) (files : ℕ → ℕ) (names : ℕ → List ℕ) 
   pub record IsKnown (n : ℕ) (kept : KeptLog) : Type 0 where
     pub nodes : length kept.last ≡ 65536
     pub last : (node : ℕ) → node < 65536 → last_at kept.last node ≡ option_map (claimed_at files events) (latest_of events node n)
-    pub sent : AreSent n kept.messages.sent
+    pub sent : AreSent n kept.messages.sent.sends
     pub awaited : AreWaiting n kept.messages.awaited
 
   sent_later : (n : ℕ) (x : List ℕ × Claimed) → IsSent n x → IsSent (suc n) x
@@ -132,28 +132,23 @@ module _ (receives : Receives) (files : ℕ → ℕ) (names : ℕ → List ℕ) 
 
     -- sent
     sent_put : (message : MessageId) → (event_at events n).kind ≡ Send message
-        → AreSent (suc n) (put_entries bytes_eq (lru_cache kept.messages.sent kept.messages.keep) (names n) (claimed_at files events n))
-    sent_put message is x there = elim (Contains-put_entries bytes_eq (lru_cache kept.messages.sent kept.messages.keep) (names n) (claimed_at files events n) x there) [
-      | inl before ↦ sent_later n x (known.sent x before)
-      | inr put ↦ record {
-        place = n;
-        message = message.0;
-        before = omega arith;
-        sends = sends_now message is;
-        name = key put.1;
-        claims = put.0;
-      }
-    ]
-      where
-        key : (x.0 ≡ names n) ⊎ ((w : Claimed) × Contains kept.messages.sent (x.0, w) × (bytes_eq (names n) x.0 ≡ true)) → x.0 ≡ names n
-        key (inl same) = same
-        key (inr there) = sym (same_name (names n) x.0 there.2)
+        → AreSent (suc n) (with_sent kept.messages.sent (names n) (claimed_at files events n)).sends
+    sent_put message is x there =
+        let put = insert_entry bytes_eq kept.messages.sent.sends (names n) (claimed_at files events n) in
+        elim (contains-put (names n) (claimed_at files events n) kept.messages.sent.sends x (contains-latest kept.messages.sent.keep put x there)) [
+          | inl before ↦ sent_later n x (known.sent x before)
+          | inr new ↦ record {
+            place = n;
+            message = message.0;
+            before = omega arith;
+            sends = sends_now message is;
+            name = sym new.0;
+            claims = sym new.1;
+          }
+        ]
 
-    sent_kept : AreSent (suc n) kept.messages.sent
+    sent_kept : AreSent (suc n) kept.messages.sent.sends
     sent_kept x there = sent_later n x (known.sent x there)
-
-    sent_first : (m : List ℕ) → AreSent (suc n) (promoted (bytes_eq m) kept.messages.sent)
-    sent_first m x there = sent_kept x (Contains-promoted (bytes_eq m) kept.messages.sent x there)
 
     -- waiting
     waiting_kept : AreWaiting (suc n) kept.messages.awaited
@@ -186,27 +181,27 @@ module _ (receives : Receives) (files : ℕ → ℕ) (names : ℕ → List ℕ) 
     ]
 
     waiting_latest : (message : MessageId) → (event_at events n).kind ≡ Receive message
-        → AreWaiting (suc n) (with_latest kept.messages.keep kept.messages.awaited (names n) own)
-    waiting_latest message is = by_test (nat_lt (receive_count kept.messages.awaited) kept.messages.keep)
+        → AreWaiting (suc n) (with_latest kept.messages.sent.keep kept.messages.awaited (names n) own)
+    waiting_latest message is = by_test (nat_lt (receive_count kept.messages.awaited) kept.messages.sent.keep)
       where
         by_test : (test : Bool) → AreWaiting (suc n) (if test then with_receive kept.messages.awaited (names n) own else without_last (with_receive kept.messages.awaited (names n) own))
         by_test true = waiting_more message is
         by_test false = λ x there. waiting_more message is x (Contains-take (length (with_receive kept.messages.awaited (names n) own) - 1) (with_receive kept.messages.awaited (names n) own) x there)
 
     abbrev AreKnown : KeptMessages → Type 0
-    AreKnown messages = AreSent (suc n) messages.sent × AreWaiting (suc n) messages.awaited
+    AreKnown messages = AreSent (suc n) messages.sent.sends × AreWaiting (suc n) messages.awaited
 
     after_found : (message : MessageId) → (event_at events n).kind ≡ Receive message → (o : Option Claimed)
         → AreKnown (received_from kept.messages (names n) own o)
     after_found message is None = (sent_kept, waiting_latest message is)
-    after_found message is (Some c) = (sent_first (names n), waiting_kept)
+    after_found message is (Some c) = (sent_kept, waiting_kept)
 
     messages_next : (kind : LogKind) → (event_at events n).kind ≡ kind → AreKnown (after_role kept.messages own (role_of kind) (names n))
     messages_next Local is = (sent_kept, waiting_kept)
     messages_next Restart is = (sent_kept, waiting_kept)
     messages_next Outside is = (sent_kept, waiting_kept)
     messages_next (Send message) is = (sent_put message is, waiting_others (names n))
-    messages_next (Receive message) is = after_found message is (lookup (bytes_eq (names n)) kept.messages.sent)
+    messages_next (Receive message) is = after_found message is (send_of kept.messages.sent (names n))
 
     pub known_next : IsKnown (suc n) (after_event kept (ruled_at receives files events n) (names n))
     known_next =
@@ -248,12 +243,12 @@ module _ (receives : Receives) (files : ℕ → ℕ) (names : ℕ → List ℕ) 
           }
 
       told_received : (message : MessageId) → (event_at events n).kind ≡ Receive message → (o : Option Claimed)
-          → lookup (bytes_eq (names n)) kept.messages.sent ≡ o → AreTold (if_any (records_with own o) ++ [])
+          → send_of kept.messages.sent (names n) ≡ o → AreTold (if_any (records_with own o) ++ [])
       told_received message is None found records there = absurd (Contains-nil records there)
       told_received message is (Some c) found records there = elim (Contains-cons (with_send c own) [] records there) [
         | inr later ↦ absurd (Contains-nil records later)
         | inl same ↦
-            let at = Contains-lookup (bytes_eq (names n)) kept.messages.sent c found in
+            let at = Contains-lookup (bytes_eq (names n)) kept.messages.sent.sends c found in
             let sent = known.sent (at.0, c) at.1 in
             let before = sent.before in
             let name : names sent.place ≡ names n = sym (same_name (names n) at.0 at.2 ∙ sent.name) in
@@ -279,7 +274,7 @@ module _ (receives : Receives) (files : ℕ → ℕ) (names : ℕ → List ℕ) 
         | inl same ↦ subst (λ r. AreRecordsOf receives files events n r) same (own_records (not_received (Send message) is (λ m other. cc)))
         | inr waited ↦ told_waited message is records waited
       ]
-      told_by_kind (Receive message) is = told_received message is (lookup (bytes_eq (names n)) kept.messages.sent) refl
+      told_by_kind (Receive message) is = told_received message is (send_of kept.messages.sent (names n)) refl
 
       pub told_next : AreTold (told_as kept (ruled_at receives files events n) (names n))
       told_next = told_by_kind (event_at events n).kind refl

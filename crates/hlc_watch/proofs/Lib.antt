@@ -5,4 +5,5 @@ pub mod Given
 pub mod Knowledge
 pub mod ListsKept
 pub mod OnLogs
+pub mod Rings
 pub mod Whole

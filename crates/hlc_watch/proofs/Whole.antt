@@ -1,12 +1,11 @@
 -- Where no more events come than messages are kept, nothing is forgotten.
 use Rattle.std.proofs.Common.{◌≡◌, ◌≢◌, ◌∙◌, ℕ, zero, suc, ◌<◌, ◌≤◌, ◌⊎◌, List, [], ◌∷◌, ◌++◌, Option, Some, None, IsSome, length, map, Contains, arith, inl, inr, refl, sym, ap, subst}
 use Rattle.std.specs.Prelude.{if◌then◌else◌, bytes_eq, max, unwrap_or}
-use Rattle.std.specs.Cmp.Lexicographic.{nat_list_eq_equiv}
 use Rattle.std.specs.Map.{lookup, remove_entry}
 use Rattle.std.proofs.lemmas.Bool.{cases_Bool, cases_order, lt-ltb}
 use Rattle.std.proofs.lemmas.List.Elements.{Contains-append_left, Contains-append_right, Contains-push}
-use Rattle.lru.specs.LruCache.{lru_cache, promoted, put_entries}
-use Rattle.lru.proofs.CallerLemmas.{Contains-lookup, lookup-put_entries}
+use Rattle.indexmap.specs.IndexMap.{insert_entry}
+use Rattle.lru.proofs.CallerLemmas.{Contains-lookup}
 use Rattle.lru.proofs.Splits.{Contains-head}
 use Rattle.hlc_causality.specs.declared.receives.Receives.{Receives}
 use Rattle.hlc_log.specs.declared.log_event.LogEvent.{LogEvent}
@@ -20,12 +19,12 @@ use Rattle.hlc_watch.specs.declared.message_role.MessageRole.TheVariants as role
 use Rattle.hlc_watch.specs.declared.records.Claimed.{Claimed}
 use Rattle.hlc_watch.specs.declared.records.Records.{Records}
 use Rattle.hlc_watch.specs.Coming.{NamesSender, TellApart, claimed_at, last_needed, records_at, ruled_at}
-use Rattle.hlc_watch.specs.Kept.{KeptMessages, received_from, receive_count, records_with, waited_for, waiting_for, with_latest, with_receive, without_last}
+use Rattle.hlc_watch.specs.Kept.{KeptMessages, KeptSends, received_from, receive_count, records_with, send_of, waited_for, waiting_for, with_latest, with_receive, with_sent, without_last}
 use Rattle.hlc_watch.specs.Laws.{AreFewNodes, IsToldAt, TellsAll, if_any, kept_after, told_as}
 use Rattle.hlc_watch.specs.Records.{role_of, with_send}
 use Rattle.hlc_watch.specs.Watching.{KeptLog, after_event, after_role, event_told, no_log, waited_told}
 use Rattle.hlc_watch.proofs.Bounds.{count-with_receive, count-remove}
-use Rattle.hlc_watch.proofs.Entries.{differ_by_test, same_name, length-promoted, length-put, lookup-others, lookup-promoted, lookup-put_others}
+use Rattle.hlc_watch.proofs.Entries.{differ_by_test, latest_all, same_name, length-put, lookup-others, lookup-put, lookup-put_others}
 use Rattle.hlc_watch.proofs.Knowledge.{IsKnown, known_after, own, own_is}
 
 mapped_there : {X Y : Type 0} (f : X → Y) (xs : List X) (x : X) → Contains xs x → Contains (map f xs) (f x)
@@ -49,10 +48,10 @@ module _ (receives : Receives) (keep : ℕ) (files : ℕ → ℕ) (names : ℕ �
     (apart : TellApart names events) (once : EachIsSentOnce events) (room : length events ≤ keep) where
   -- nothing is forgotten of the first n events
   record IsWhole (n : ℕ) (messages : KeptMessages) : Type 0 where
-    pub keep_is : messages.keep ≡ keep
-    pub few_sent : length messages.sent ≤ n
+    pub keep_is : messages.sent.keep ≡ keep
+    pub few_sent : length messages.sent.sends ≤ n
     pub few_waiting : receive_count messages.awaited ≤ n
-    pub sent : (d m : ℕ) → d < n → Sends events d m → IsSome (lookup (bytes_eq (names d)) messages.sent)
+    pub sent : (d m : ℕ) → d < n → Sends events d m → IsSome (send_of messages.sent (names d))
     pub waits : (e m : ℕ) → e < n → ReceivesMessage events e m → ((d : ℕ) → d < n → ¬ Sends events d m)
         → Contains (waiting_for messages.awaited (names e)) (records_at receives files events e None)
 
@@ -85,12 +84,10 @@ module _ (receives : Receives) (keep : ℕ) (files : ℕ → ℕ) (names : ℕ �
     no_send_before : (m : ℕ) → ((d : ℕ) → d < suc n → ¬ Sends events d m) → (d : ℕ) → d < n → ¬ Sends events d m
     no_send_before m none d before = none d (omega arith)
 
-    -- an event that sends nothing changes nothing of what was sent
-    sent_kept : ((m : ℕ) → ¬ Sends events n m) → (sent : List (List ℕ × Claimed))
-        → ((m : List ℕ) → IsSome (lookup (bytes_eq m) messages.sent) → IsSome (lookup (bytes_eq m) sent))
-        → (d m : ℕ) → d < suc n → Sends events d m → IsSome (lookup (bytes_eq (names d)) sent)
-    sent_kept sends_none sent same d m before sends = elim (earlier d before) [
-      | inl less ↦ same (names d) (whole.sent d m less sends)
+    -- where an event sends nothing, nothing more was sent
+    sent_kept : ((m : ℕ) → ¬ Sends events n m) → (d m : ℕ) → d < suc n → Sends events d m → IsSome (send_of messages.sent (names d))
+    sent_kept sends_none d m before sends = elim (earlier d before) [
+      | inl less ↦ whole.sent d m less sends
       | inr at ↦ absurd (sends_none m (subst (λ x. Sends events x m) at sends))
     ]
 
@@ -107,7 +104,7 @@ module _ (receives : Receives) (keep : ℕ) (files : ℕ → ℕ) (names : ℕ �
       keep_is = whole.keep_is;
       few_sent = let few = whole.few_sent in omega arith;
       few_waiting = let few = whole.few_waiting in omega arith;
-      sent = sent_kept no_send messages.sent (λ m some. some);
+      sent = sent_kept no_send;
       waits = waits_kept no_receive;
     }
 
@@ -126,22 +123,28 @@ module _ (receives : Receives) (keep : ℕ) (files : ℕ → ℕ) (names : ℕ �
       sends_now = record { exists = exists; kind = is }
 
       abbrev put : List (List ℕ × Claimed)
-      put = put_entries bytes_eq (lru_cache messages.sent messages.keep) k (claimed_at files events n)
+      put = insert_entry bytes_eq messages.sent.sends k (claimed_at files events n)
 
-      sent_now : (d m : ℕ) → d < suc n → Sends events d m → IsSome (lookup (bytes_eq (names d)) put)
-      sent_now d m before sends = elim (cases_Bool (bytes_eq (names d) k)) [
+      few_put : length put ≤ suc n
+      few_put = let few = whole.few_sent in let more = length-put k (claimed_at files events n) messages.sent.sends in omega arith
+
+      abbrev sent_next : KeptSends
+      sent_next = with_sent messages.sent k (claimed_at files events n)
+
+      -- nothing that was sent is forgotten
+      all_put : sent_next.sends ≡ put
+      all_put = let is_keep = whole.keep_is in let few = few_put in latest_all messages.sent.keep put (omega arith)
+
+      sent_now : (d m : ℕ) → d < suc n → Sends events d m → IsSome (send_of sent_next (names d))
+      sent_now d m before sends = subst (λ es. IsSome (lookup (bytes_eq (names d)) es)) (sym all_put) (elim (cases_Bool (bytes_eq (names d) k)) [
         | inl test ↦
             some_of (lookup (bytes_eq (names d)) put) (claimed_at files events n)
-            (ap (λ (x : List ℕ). lookup (bytes_eq x) put) (same_name (names d) k test) ∙ lookup-put_entries bytes_eq (lru_cache messages.sent messages.keep) k (claimed_at files events n) nat_list_eq_equiv)
+            (ap (λ (x : List ℕ). lookup (bytes_eq x) put) (same_name (names d) k test) ∙ lookup-put k (claimed_at files events n) messages.sent.sends)
         | inr test ↦ elim (earlier d before) [
-          | inl less ↦
-              let few = whole.few_sent in
-              let is_keep = whole.keep_is in
-              let there : length messages.sent < messages.keep = omega arith in
-              rw (lookup-put_others messages.keep k (claimed_at files events n) messages.sent (names d) (differ_by_test (names d) k test) there) (whole.sent d m less sends)
+          | inl less ↦ rw (lookup-put_others k (claimed_at files events n) (names d) (differ_by_test (names d) k test) messages.sent.sends) (whole.sent d m less sends)
           | inr at ↦ absurd (differ_by_test (names d) k test (ap names at))
         ]
-      ]
+      ])
 
       waits_now : (e m : ℕ) → e < suc n → ReceivesMessage events e m → ((d : ℕ) → d < suc n → ¬ Sends events d m)
           → Contains (waiting_for (remove_entry (bytes_eq k) messages.awaited) (names e)) (records_at receives files events e None)
@@ -155,7 +158,7 @@ module _ (receives : Receives) (keep : ℕ) (files : ℕ → ℕ) (names : ℕ �
       whole_send : IsWhole (suc n) (after_role messages mine role.Send k)
       whole_send = record {
         keep_is = whole.keep_is;
-        few_sent = let few = whole.few_sent in let more = length-put messages.keep k (claimed_at files events n) messages.sent in omega arith;
+        few_sent = let few = few_put in let all = ap length all_put in omega arith;
         few_waiting = let few = whole.few_waiting in let less = count-remove k messages.awaited in omega arith;
         sent = sent_now;
         waits = waits_now;
@@ -169,16 +172,16 @@ module _ (receives : Receives) (keep : ℕ) (files : ℕ → ℕ) (names : ℕ �
       no_send : (m : ℕ) → ¬ Sends events n m
       no_send = no_send_if (Receive message) is (λ x same. cc)
 
-      received_whole : (c : Claimed) → lookup (bytes_eq r) messages.sent ≡ Some c → IsWhole (suc n) (received_from messages r mine (Some c))
+      received_whole : (c : Claimed) → send_of messages.sent r ≡ Some c → IsWhole (suc n) (received_from messages r mine (Some c))
       received_whole c found = record {
         keep_is = whole.keep_is;
-        few_sent = let few = whole.few_sent in let less = length-promoted r messages.sent in omega arith;
+        few_sent = let few = whole.few_sent in omega arith;
         few_waiting = let few = whole.few_waiting in omega arith;
-        sent = sent_kept no_send (promoted (bytes_eq r) messages.sent) (lookup-promoted r messages.sent);
+        sent = sent_kept no_send;
         waits = λ e m before received none. elim (earlier e before) [
           | inl less ↦ whole.waits e m less received (no_send_before m none)
           | inr at ↦
-              let entry = Contains-lookup (bytes_eq r) messages.sent c found in
+              let entry = Contains-lookup (bytes_eq r) messages.sent.sends c found in
               let sent = known.sent (entry.0, c) entry.1 in
               let sent_before = sent.before in
               let name : names sent.place ≡ names e = sym (ap names at ∙ same_name r entry.0 entry.2 ∙ sent.name) in
@@ -211,20 +214,20 @@ module _ (receives : Receives) (keep : ℕ) (files : ℕ → ℕ) (names : ℕ �
       wait_whole =
           let few = whole.few_waiting in
           let is_keep = whole.keep_is in
-          let there : receive_count messages.awaited < messages.keep = omega arith in
-          let test = lt-ltb (receive_count messages.awaited) messages.keep there in
-          let latest : with_latest messages.keep messages.awaited r mine ≡ with_receive messages.awaited r mine =
+          let there : receive_count messages.awaited < messages.sent.keep = omega arith in
+          let test = lt-ltb (receive_count messages.awaited) messages.sent.keep there in
+          let latest : with_latest messages.sent.keep messages.awaited r mine ≡ with_receive messages.awaited r mine =
           ap (λ b. if b then with_receive messages.awaited r mine else without_last (with_receive messages.awaited r mine)) test in
           record {
             keep_is = whole.keep_is;
             few_sent = let few = whole.few_sent in omega arith;
             few_waiting = let more = ap (λ ws. receive_count ws) latest in let count = count-with_receive messages.awaited r mine in omega arith;
-            sent = sent_kept no_send messages.sent (λ m some. some);
+            sent = sent_kept no_send;
             waits = λ e m before received none.
                 subst (λ ws. Contains (waiting_for ws (names e)) (records_at receives files events e None)) (sym latest) (more_waits e m before received none);
           }
 
-      whole_by : (o : Option Claimed) → lookup (bytes_eq r) messages.sent ≡ o → IsWhole (suc n) (received_from messages r mine o)
+      whole_by : (o : Option Claimed) → send_of messages.sent r ≡ o → IsWhole (suc n) (received_from messages r mine o)
       whole_by None found = wait_whole
       whole_by (Some c) found = received_whole c found
 
@@ -233,7 +236,7 @@ module _ (receives : Receives) (keep : ℕ) (files : ℕ → ℕ) (names : ℕ �
     whole_by_kind Restart is = nothing_more (no_send_if Restart is (λ x same. cc)) (no_receive_if Restart is (λ x same. cc))
     whole_by_kind Outside is = nothing_more (no_send_if Outside is (λ x same. cc)) (no_receive_if Outside is (λ x same. cc))
     whole_by_kind (Send message) is = whole_send message is
-    whole_by_kind (Receive message) is = whole_by message is (lookup (bytes_eq (names n)) messages.sent) refl
+    whole_by_kind (Receive message) is = whole_by message is (send_of messages.sent (names n)) refl
 
     whole_next : IsWhole (suc n) (after_event kept (ruled_at receives files events n) (names n)).messages
     whole_next = whole_by_kind (event_at events n).kind refl
@@ -251,11 +254,11 @@ module _ (receives : Receives) (keep : ℕ) (files : ℕ → ℕ) (names : ℕ �
     told_now (Receive message) other = absurd (other message refl)
 
     tells_received : (m d : ℕ) → d < n → Sends events d m → ReceivesMessage events n m → (o : Option Claimed)
-        → lookup (bytes_eq (names n)) messages.sent ≡ o → IsSome o
+        → send_of messages.sent (names n) ≡ o → IsSome o
         → Contains (if_any (records_with mine o) ++ []) (records_at receives files events n (Some d))
     tells_received m d before sends received None found some = absurd cc
     tells_received m d before sends received (Some c) found some =
-        let entry = Contains-lookup (bytes_eq (names n)) messages.sent c found in
+        let entry = Contains-lookup (bytes_eq (names n)) messages.sent.sends c found in
         let sent = known.sent (entry.0, c) entry.1 in
         let name : names sent.place ≡ names n = sym (same_name (names n) entry.0 entry.2 ∙ sent.name) in
         let key : sent.message ≡ m = (apart sent.place n sent.message m (inl sent.sends) (inr received)).0 name in
@@ -268,10 +271,10 @@ module _ (receives : Receives) (keep : ℕ) (files : ℕ → ℕ) (names : ℕ �
         → Contains (told_as kept (ruled_at receives files events n) (names n)) (records_at receives files events n (Some d))
     told_received m d before sends received =
         let name : names d ≡ names n = (apart d n m m (inl sends) (inr received)).1 refl in
-        let some : IsSome (lookup (bytes_eq (names n)) messages.sent) =
-        subst (λ x. IsSome (lookup (bytes_eq x) messages.sent)) name (whole.sent d m before sends) in
+        let some : IsSome (send_of messages.sent (names n)) =
+        subst (λ x. IsSome (send_of messages.sent x)) name (whole.sent d m before sends) in
         subst (λ kind. Tells kind (records_at receives files events n (Some d))) (sym received.kind)
-        (tells_received m d before sends received (lookup (bytes_eq (names n)) messages.sent) refl some)
+        (tells_received m d before sends received (send_of messages.sent (names n)) refl some)
 
     told_waited : (e m : ℕ) → e < n → Sends events n m → ReceivesMessage events e m
         → Contains (told_as kept (ruled_at receives files events n) (names n)) (records_at receives files events e (Some n))

@@ -1,23 +1,39 @@
 -- What a watch keeps of a log whose events come one after another.
-use Rattle.std.specs.Prelude.{◌+◌, ◌-◌, ◌^◌, ◌<◌, ◌≤◌, ℕ, Contains, List, [], ◌∷◌, ◌++◌, Option, Some, None, bytes_eq, if◌then◌else◌, length, map, min, nat_lt, sum_by, take, unwrap_or}
+use Rattle.std.specs.Prelude.{◌+◌, ◌-◌, ◌^◌, ◌<◌, ◌≤◌, ℕ, Contains, List, [], ◌∷◌, ◌++◌, Option, Some, None, bytes_eq, drop, if◌then◌else◌, length, map, min, nat_lt, sum_by, take, unwrap_or}
 use Rattle.std.specs.Map.{lookup, remove_entry, values_of}
-use Rattle.lru.specs.LruCache.{lru_cache, promoted, put_entries}
+use Rattle.indexmap.specs.IndexMap.{insert_entry}
 use Rattle.hlc_watch.specs.declared.records.Claimed.{Claimed}
 use Rattle.hlc_watch.specs.declared.records.Records.{Records}
 use Rattle.hlc_watch.specs.Records.{with_send}
 
--- what is kept of messages, which are told apart by their names: what the sends of the latest of them claim, the message that was sent or received
--- last coming first; the receives whose sends haven't come, by their messages, that of the latest coming first; how many are kept of both; and how
--- many receives were forgotten that waited, or the greatest number, if there were more
-pub record KeptMessages : Type 0 where
-  pub sent : List (List ℕ × Claimed)
-  pub awaited : List (List ℕ × List Records)
+-- what the sends of the latest messages claim, by their names, that of the one that was sent first coming first; and how many are kept
+pub record KeptSends : Type 0 where
+  pub sends : List (List ℕ × Claimed)
   pub keep : ℕ
+
+-- none
+abbrev pub no_sends : ℕ → KeptSends
+no_sends keep = record { sends = []; keep = keep }
+
+-- the last so many of a list
+abbrev pub latest : {X : Type 0} → (keep : ℕ) → List X → List X
+latest keep xs = drop (length xs - keep) xs
+
+-- a message is sent: it comes last, or keeps its place if it is there already
+abbrev pub with_sent : KeptSends → (m : List ℕ) → Claimed → KeptSends
+with_sent kept m claimed = record kept { sends = latest kept.keep (insert_entry bytes_eq kept.sends m claimed) }
+
+-- what is kept of messages, which are told apart by their names: what the sends of the latest of them claim; the receives whose sends haven't come, by
+-- their messages, that of the latest coming first; how many are kept of both; and how many receives were forgotten that waited, or the greatest
+-- number, if there were more
+pub record KeptMessages : Type 0 where
+  pub sent : KeptSends
+  pub awaited : List (List ℕ × List Records)
   pub forgotten : ℕ
 
 -- none
 abbrev pub no_messages : ℕ → KeptMessages
-no_messages keep = record { sent = []; awaited = []; keep = keep; forgotten = 0 }
+no_messages keep = record { sent = no_sends keep; awaited = []; forgotten = 0 }
 
 -- the receives that wait for a message
 abbrev pub waiting_for : List (List ℕ × List Records) → (m : List ℕ) → List Records
@@ -43,31 +59,29 @@ with_latest keep awaited m records =
 -- a receive waits
 abbrev pub after_wait : KeptMessages → (m : List ℕ) → Records → KeptMessages
 after_wait kept m records =
-    let awaited = with_latest kept.keep kept.awaited m records in
+    let awaited = with_latest kept.sent.keep kept.awaited m records in
     let forgotten = receive_count (with_receive kept.awaited m records) - receive_count awaited in
     record kept { awaited = awaited; forgotten = min (kept.forgotten + forgotten) (2 ^ 64 - 1) }
 
--- a message is sent: it comes first, and none waits for it any more
+-- a message is sent: none waits for it any more
 abbrev pub after_send : KeptMessages → (m : List ℕ) → Claimed → KeptMessages
-after_send kept m claimed = record kept {
-  sent = put_entries bytes_eq (lru_cache kept.sent kept.keep) m claimed;
-  awaited = remove_entry (bytes_eq m) kept.awaited;
-}
+after_send kept m claimed = record kept { sent = with_sent kept.sent m claimed; awaited = remove_entry (bytes_eq m) kept.awaited }
 
 -- the records that then are there, of those that waited
 abbrev pub waited_for : KeptMessages → (m : List ℕ) → Claimed → List Records
 waited_for kept m claimed = map (with_send claimed) (waiting_for kept.awaited m)
 
--- a message is received, whose send claims this, if that is remembered
-abbrev pub with_found : KeptMessages → (m : List ℕ) → KeptMessages
-with_found kept m = record kept { sent = promoted (bytes_eq m) kept.sent }
+-- what the send of a message claims, if that is remembered
+abbrev pub send_of : KeptSends → (m : List ℕ) → Option Claimed
+send_of kept m = lookup (bytes_eq m) kept.sends
 
+-- a message is received, whose send claims this, if that is remembered: else the receive waits
 abbrev pub received_from : KeptMessages → (m : List ℕ) → Records → Option Claimed → KeptMessages
 received_from kept m records None = after_wait kept m records
-received_from kept m records (Some send) = with_found kept m
+received_from kept m records (Some send) = kept
 
 abbrev pub after_receive : KeptMessages → (m : List ℕ) → Records → KeptMessages
-after_receive kept m records = received_from kept m records (lookup (bytes_eq m) kept.sent)
+after_receive kept m records = received_from kept m records (send_of kept.sent m)
 
 -- the records that then are there
 abbrev pub records_with : Records → Option Claimed → Option Records
@@ -75,7 +89,7 @@ records_with records None = None
 records_with records (Some send) = Some (with_send send records)
 
 abbrev pub records_told : KeptMessages → (m : List ℕ) → Records → Option Records
-records_told kept m records = records_with records (lookup (bytes_eq m) kept.sent)
+records_told kept m records = records_with records (send_of kept.sent m)
 
 -- each message that is awaited is by some receive, and no more receives wait than are kept
 pub record IsBounded (keep : ℕ) (awaited : List (List ℕ × List Records)) : Type 0 where

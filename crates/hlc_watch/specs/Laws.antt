@@ -74,7 +74,7 @@ EachIsCounted = (receives : Receives) (keep : ℕ) (files : ℕ → ℕ) (names 
 -- however many events come, the memory is bounded
 pub record IsSmall (keep : ℕ) (kept : KeptLog) : Type 0 where
   pub nodes : length kept.last ≡ 65536
-  pub sent : length kept.messages.sent ≤ keep
+  pub sent : length kept.messages.sent.sends ≤ keep
   pub waiting : receive_count kept.messages.awaited ≤ keep
 
 abbrev pub StaysSmall : Type 0

@@ -3,4 +3,5 @@ pub mod Kept
 pub mod Laws
 pub mod Lists
 pub mod Records
+pub mod Ring
 pub mod Watching

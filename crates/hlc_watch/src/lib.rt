@@ -10,7 +10,7 @@
 //! - `Records::causes` says which rules an event breaks: its `LineCauses`, which name other events by their lines.
 //! - A `RuledEvent` is an event of a log (`hlc_log`) as a clock rule reads it; `new` makes one. A log may be put together of several files, so a
 //!   `FileLine` is a line of one of them.
-//! - Only so many messages are remembered, the latest, and as many receives wait. A receive of a message that is forgotten waits until it is
+//! - Only so many messages are remembered, those that were sent last, and as many receives wait. A receive of a message that is forgotten waits until it is
 //!   forgotten, too: `waiting` and `forgotten` count those that have no causes.
 //! - `laws` says that the causes are those that the events break in any causal order of the log, and that none is missing where nothing is
 //!   forgotten; that each event is told, or waits, or is forgotten; and that the memory is bounded, however long it runs.
@@ -46,6 +46,7 @@
 
 mod awaited;
 mod file_line;
+mod latest_sends;
 pub mod laws;
 mod message_role;
 mod messages;

@@ -1,23 +1,20 @@
 // What is remembered of messages.
 
-ghost use Rattle.std.specs.Prelude.{◌≡◌, ◌<◌, IfOk, OnErr, OnOk, bytes_eq};
-ghost use Rattle.std.specs.Map.{lookup};
-ghost use Rattle.hlc_watch.specs.Kept.{after_send, after_wait, no_messages, receive_count, waited_for, with_found};
+ghost use Rattle.std.specs.Prelude.{◌≡◌, ◌<◌, IfOk, OnErr, OnOk};
+ghost use Rattle.hlc_watch.specs.Kept.{after_send, after_wait, no_messages, receive_count, send_of, waited_for};
 
 use crate::awaited::Awaited;
+use crate::latest_sends::LatestSends;
 use crate::records::{Claimed, Records, give_send};
 use hlc_pages::Bytes;
-use lru::LruCache;
 use std::alloc::{AllocError, Global};
 use std::hash::BuildHasher;
 use std::marker::Model;
-use std::num::NonZeroUsize;
 
 // The latest messages that were sent, and receives whose sends haven't come.
 #[derive(Drop)]
 pub(crate) struct Messages<S: BuildHasher> {
-    // By the name of a message, what the record of its send claims; the one that was sent or received last comes first.
-    sent: LruCache<Bytes<'static>, Claimed, S>,
+    sent: LatestSends<S>,
     awaited: Awaited<S>,
     // How many receives were forgotten that waited; or the greatest number, if there were more.
     forgotten: u64,
@@ -29,14 +26,9 @@ impl<S: BuildHasher> Model for Messages<S> {
 
     ghost Value = { KeptMessages };
 
-    ghost view = { λ messages. record {
-      sent = messages.sent.entries;
-      awaited = messages.awaited;
-      keep = messages.sent.cap;
-      forgotten = messages.forgotten;
-    } };
+    ghost view = { λ messages. record { sent = messages.sent; awaited = messages.awaited; forgotten = messages.forgotten } };
 
-    ghost invariant = { λ messages. IsBounded messages.sent.cap messages.awaited };
+    ghost invariant = { λ messages. IsBounded messages.sent.keep messages.awaited };
 }
 
 impl<S: BuildHasher + Drop> Messages<S> {
@@ -47,10 +39,8 @@ impl<S: BuildHasher + Drop> Messages<S> {
         requires { 0 < keep }
         ensures { IfOk result (λ messages. messages ≡ no_messages keep) }
     {
-        let mut sent = LruCache::unbounded_with_hasher(alloc, hash_builder)?;
-        sent.resize(NonZeroUsize::new(keep as usize).unwrap());
         Ok(Messages {
-            sent,
+            sent: LatestSends::new(alloc, keep, hash_builder),
             awaited: Awaited::new(alloc, hash_builder)?,
             forgotten: 0,
             alloc,
@@ -84,25 +74,21 @@ impl<S: BuildHasher + Drop> Messages<S> {
         }
     }
 
-    // What the send of a message claims that is received, if that is remembered: then it is the latest.
-    pub(crate) fn find(&mut self, message: &Bytes<'static>) -> Option<Claimed>
-        ensures found { result ≡ lookup (bytes_eq message.now) self.old.sent }
-        ensures kept { self.new ≡ with_found self.old message.now }
+    // What the send of a message claims, if that is remembered.
+    pub(crate) fn find(&self, message: &[u8]) -> Option<Claimed>
+        ensures { result ≡ send_of self.now.sent message.now }
     {
-        self.sent.get(message).copied()
+        self.sent.get(message)
     }
 
     // Has a receive wait. If as many wait already as are kept, those of the message for which none has come for the longest time are forgotten.
-    pub(crate) fn wait(
-        &mut self,
-        message: Bytes<'static>,
-        records: Records,
-    ) -> Result<(), AllocError>
-        ensures kept { OnOk result (self.new ≡ after_wait self.old message.entry records) }
+    pub(crate) fn wait(&mut self, message: &[u8], records: Records) -> Result<(), AllocError>
+        ensures kept { OnOk result (self.new ≡ after_wait self.old message.now records) }
         ensures unchanged { OnErr result (self.new ≡ self.old) }
     {
-        let is_full = self.sent.cap().get() <= self.awaited.count();
-        self.awaited.push(message, records)?;
+        let name = Bytes::from_slice(self.alloc, message)?;
+        let is_full = self.sent.keep() <= self.awaited.count();
+        self.awaited.push(name, records)?;
         let forgotten = if is_full { self.awaited.forget() } else { 0 };
         self.forgotten = self.forgotten.saturating_add(forgotten as u64);
         Ok(())

@@ -6,7 +6,6 @@ use crate::message_role::MessageRole;
 use crate::messages::Messages;
 use crate::records::{Claimed, Records};
 use crate::ruled_event::RuledEvent;
-use hlc_pages::Bytes;
 use hlc_stamp::NodeId;
 use std::alloc::{AllocError, Global};
 use std::hash::BuildHasher;
@@ -26,7 +25,6 @@ pub struct Watch<S: BuildHasher> {
     // By the number of a node, what the record of its last event claims.
     last: Vec<Option<Claimed>>,
     messages: Messages<S>,
-    alloc: Global,
 }
 
 impl<S: BuildHasher> Model for Watch<S> {
@@ -54,8 +52,8 @@ impl<S: BuildHasher + Drop> Watch<S> {
     /// Nothing has come. So many messages are remembered, the latest, and so many receives may wait. The names of messages are hashed so: where they
     /// come from strangers, by a key that these don't know.
     ///
-    /// A message is the later, the later it was sent or received. If as many receives wait as are kept and one more does, then those are forgotten
-    /// which wait for the message that has been received the longest ago.
+    /// A message is the later, the later it was sent; one that is sent again, while it is remembered, stays as late as it was. If as many receives wait
+    /// as are kept and one more does, then those are forgotten which wait for the message that has been received the longest ago.
     pub fn new(alloc: Global, keep: u32, hash_builder: S) -> Result<Watch<S>, AllocError>
     where
         S: Copy,
@@ -65,7 +63,6 @@ impl<S: BuildHasher + Drop> Watch<S> {
         Ok(Watch {
             last: vec![in alloc; None; NODES]?,
             messages: Messages::new(alloc, keep, hash_builder)?,
-            alloc,
         })
     }
 
@@ -86,14 +83,7 @@ impl<S: BuildHasher + Drop> Watch<S> {
     {
         let node = event.node.0 as usize;
         let previous = self.last[node];
-        take_message(
-            self.alloc,
-            &mut self.messages,
-            event,
-            previous,
-            message,
-            complete,
-        )?;
+        take_message(&mut self.messages, event, previous, message, complete)?;
         self.last[node] = Some(event.claimed());
         Ok(())
     }
@@ -126,7 +116,6 @@ fn without_send(event: &RuledEvent, previous: Option<Claimed>) -> Records
 
 // Gives the events that are complete, now that one has come.
 fn take_message<S: BuildHasher + Drop>(
-    alloc: Global,
     messages: &mut Messages<S>,
     event: &RuledEvent,
     previous: Option<Claimed>,
@@ -144,9 +133,8 @@ fn take_message<S: BuildHasher + Drop>(
             complete.event = Some(without_send(event, previous));
         }
         MessageRole::Receive => {
-            let name = Bytes::from_slice(alloc, message)?;
             complete.waited.clear();
-            match messages.find(&name) {
+            match messages.find(message) {
                 Some(send) => {
                     complete.event = Some(Records {
                         event: *event,
@@ -155,7 +143,7 @@ fn take_message<S: BuildHasher + Drop>(
                     });
                 }
                 None => {
-                    messages.wait(name, without_send(event, previous))?;
+                    messages.wait(message, without_send(event, previous))?;
                     complete.event = None;
                 }
             }
