@@ -16,7 +16,7 @@ use Rattle.hlc_watch.specs.declared.message_role.MessageRole.TheVariants.{Local,
 use Rattle.hlc_watch.specs.declared.records.Claimed.{Claimed}
 use Rattle.hlc_watch.specs.declared.records.Records.{Records}
 use Rattle.hlc_watch.specs.Coming.{ruled_at}
-use Rattle.hlc_watch.specs.Kept.{IsBounded, KeptMessages, received_from, receive_count, waiting_for, send_of, with_latest, with_receive, with_sent, without_last}
+use Rattle.hlc_watch.specs.Kept.{IsBounded, KeptMessages, received_from, receive_count, waiting_for, send_of, with_latest, with_receive, without_last}
 use Rattle.hlc_watch.specs.Laws.{StaysSmall, kept_after}
 use Rattle.hlc_watch.specs.Records.{claimed_by}
 use Rattle.hlc_watch.specs.Watching.{after_role, records_of}

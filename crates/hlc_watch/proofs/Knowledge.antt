@@ -1,5 +1,5 @@
 -- What is kept is of events that came, and what is told is of events whose records have come.
-use Rattle.std.proofs.Common.{◌≡◌, ◌≢◌, ◌∙◌, ℕ, zero, suc, ◌-◌, ◌<◌, ◌≤◌, ◌⊎◌, Bool, true, false, List, [], ◌∷◌, ◌++◌, Option, Some, None, length, map, Contains, arith, inl, inr, refl, sym, ap, subst}
+use Rattle.std.proofs.Common.{◌≡◌, ◌≢◌, ◌∙◌, ℕ, zero, suc, ◌-◌, ◌<◌, ◌≤◌, Bool, true, false, List, [], ◌∷◌, ◌++◌, Option, Some, None, IsSome, length, map, Contains, arith, inl, inr, refl, sym, ap, subst}
 use Rattle.std.specs.Prelude.{if◌then◌else◌, ◌==◌, bytes_eq, nat_lt, option_map, slice_set}
 use Rattle.std.specs.Map.{lookup, remove_entry}
 use Rattle.std.proofs.lemmas.Bool.{cases_Bool, eqb-true, eq-eqb}
@@ -7,14 +7,15 @@ use Rattle.std.proofs.lemmas.List.{get_or-replicate, get_or-set_other, get_or-se
 use Rattle.std.proofs.lemmas.List.Elements.{Contains-push_cases}
 use Rattle.indexmap.specs.IndexMap.{insert_entry}
 use Rattle.lru.proofs.CallerLemmas.{Contains-lookup, Contains-remove_entry, Contains-take}
-use Rattle.lru.proofs.Splits.{Contains-cons, Contains-nil}
+use Rattle.lru.proofs.Splits.{Contains-cons, Contains-head, Contains-nil}
 use Rattle.hlc_causality.specs.declared.receives.Receives.{Receives}
 use Rattle.hlc_log.specs.declared.log_event.LogEvent.{LogEvent}
 use Rattle.hlc_log.specs.declared.log_event.LogKind.{LogKind}
 use Rattle.hlc_log.specs.declared.log_event.LogKind.TheVariants.{Local, Outside, Receive, Restart, Send}
 use Rattle.hlc_log.specs.declared.message_id.MessageId.{MessageId}
 use Rattle.hlc_log.specs.Events.{event_at}
-use Rattle.hlc_log.specs.Messages.{Receives as ReceivesMessage, Sends}
+use Rattle.hlc_log.specs.Messages.{EachIsSentOnce, Receives as ReceivesMessage, Sends}
+use Rattle.hlc_log.proofs.OrderSkeletons.{one_send}
 use Rattle.hlc_watch.specs.declared.records.Claimed.{Claimed}
 use Rattle.hlc_watch.specs.declared.records.Records.{Records}
 use Rattle.hlc_watch.specs.Coming.{NamesSender, TellApart, claimed_at, latest_of, records_at, ruled_at}
@@ -278,6 +279,30 @@ module _ (receives : Receives) (files : ℕ → ℕ) (names : ℕ → List ℕ) 
 
       pub told_next : AreTold (told_as kept (ruled_at receives files events n) (names n))
       told_next = told_by_kind (event_at events n).kind refl
+
+      -- of a receive whose send is remembered, where each message is sent once
+      module _ (once : EachIsSentOnce events) (m d : ℕ) (sends : Sends events d m) (received : ReceivesMessage events n m) where
+        tells_received : (o : Option Claimed) → send_of kept.messages.sent (names n) ≡ o → IsSome o
+            → Contains (if_any (records_with own o) ++ []) (records_at receives files events n (Some d))
+        tells_received None found some = absurd cc
+        tells_received (Some c) found some =
+            let entry = Contains-lookup (bytes_eq (names n)) kept.messages.sent.sends c found in
+            let sent = known.sent (entry.0, c) entry.1 in
+            let name : names sent.place ≡ names n = sym (same_name (names n) entry.0 entry.2 ∙ sent.name) in
+            let key : sent.message ≡ m = (apart sent.place n sent.message m (inl sent.sends) (inr received)).0 name in
+            let same : sent.place ≡ d = one_send events once sent.place d m (subst (λ x. Sends events sent.place x) key sent.sends) sends in
+            let told : with_send c own ≡ records_at receives files events n (Some d) =
+            ap (with_send c) own_is ∙ ap (λ (x : Claimed). with_send x (records_at receives files events n None)) (sent.claims ∙ ap (claimed_at files events) same) in
+            subst (λ w. Contains (with_send c own ∷ []) w) told (Contains-head (with_send c own) [])
+
+        abbrev Tells : LogKind → Type 0
+        Tells kind =
+            Contains (if_any (event_told kept.messages own (role_of kind) (names n)) ++ waited_told kept.messages own (role_of kind) (names n))
+            (records_at receives files events n (Some d))
+
+        pub told_remembered : IsSome (send_of kept.messages.sent (names n))
+            → Contains (told_as kept (ruled_at receives files events n) (names n)) (records_at receives files events n (Some d))
+        told_remembered some = subst Tells (sym received.kind) (tells_received (send_of kept.messages.sent (names n)) refl some)
 
   pub known_after : (keep : ℕ) → AreFewNodes events → (n : ℕ) → n ≤ length events → IsKnown n (kept_after receives keep files names events n)
   known_after keep few zero within = none_known keep

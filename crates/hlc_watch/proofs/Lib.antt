@@ -3,6 +3,7 @@ pub mod Counted
 pub mod Entries
 pub mod Given
 pub mod Knowledge
+pub mod Latest
 pub mod ListsKept
 pub mod OnLogs
 pub mod Rings

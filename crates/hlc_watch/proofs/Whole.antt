@@ -19,13 +19,13 @@ use Rattle.hlc_watch.specs.declared.message_role.MessageRole.TheVariants as role
 use Rattle.hlc_watch.specs.declared.records.Claimed.{Claimed}
 use Rattle.hlc_watch.specs.declared.records.Records.{Records}
 use Rattle.hlc_watch.specs.Coming.{NamesSender, TellApart, claimed_at, last_needed, records_at, ruled_at}
-use Rattle.hlc_watch.specs.Kept.{KeptMessages, KeptSends, received_from, receive_count, records_with, send_of, waited_for, waiting_for, with_latest, with_receive, with_sent, without_last}
+use Rattle.hlc_watch.specs.Kept.{KeptMessages, KeptSends, received_from, receive_count, send_of, waited_for, waiting_for, with_latest, with_receive, with_sent, without_last}
 use Rattle.hlc_watch.specs.Laws.{AreFewNodes, IsToldAt, TellsAll, if_any, kept_after, told_as}
 use Rattle.hlc_watch.specs.Records.{role_of, with_send}
 use Rattle.hlc_watch.specs.Watching.{KeptLog, after_event, after_role, event_told, no_log, waited_told}
 use Rattle.hlc_watch.proofs.Bounds.{count-with_receive, count-remove}
 use Rattle.hlc_watch.proofs.Entries.{differ_by_test, latest_all, same_name, length-put, lookup-others, lookup-put, lookup-put_others}
-use Rattle.hlc_watch.proofs.Knowledge.{IsKnown, known_after, own, own_is}
+use Rattle.hlc_watch.proofs.Knowledge.{IsKnown, known_after, own, own_is, told_remembered}
 
 mapped_there : {X Y : Type 0} (f : X → Y) (xs : List X) (x : X) → Contains xs x → Contains (map f xs) (f x)
 mapped_there f [] x there = let within = there.1 in absurd (omega arith)
@@ -253,28 +253,12 @@ module _ (receives : Receives) (keep : ℕ) (files : ℕ → ℕ) (names : ℕ �
     told_now (Send message) other = subst (λ w. Tells (Send message) w) mine_is (Contains-head mine (waited_told messages mine role.Send (names n)))
     told_now (Receive message) other = absurd (other message refl)
 
-    tells_received : (m d : ℕ) → d < n → Sends events d m → ReceivesMessage events n m → (o : Option Claimed)
-        → send_of messages.sent (names n) ≡ o → IsSome o
-        → Contains (if_any (records_with mine o) ++ []) (records_at receives files events n (Some d))
-    tells_received m d before sends received None found some = absurd cc
-    tells_received m d before sends received (Some c) found some =
-        let entry = Contains-lookup (bytes_eq (names n)) messages.sent.sends c found in
-        let sent = known.sent (entry.0, c) entry.1 in
-        let name : names sent.place ≡ names n = sym (same_name (names n) entry.0 entry.2 ∙ sent.name) in
-        let key : sent.message ≡ m = (apart sent.place n sent.message m (inl sent.sends) (inr received)).0 name in
-        let same : sent.place ≡ d = one_send events once sent.place d m (subst (λ x. Sends events sent.place x) key sent.sends) sends in
-        let told : with_send c mine ≡ records_at receives files events n (Some d) =
-        ap (with_send c) mine_is ∙ ap (λ (x : Claimed). with_send x (records_at receives files events n None)) (sent.claims ∙ ap (claimed_at files events) same) in
-        subst (λ w. Contains (with_send c mine ∷ []) w) told (Contains-head (with_send c mine) [])
-
-    told_received : (m d : ℕ) → d < n → Sends events d m → ReceivesMessage events n m
+    told_from : (m d : ℕ) → d < n → Sends events d m → ReceivesMessage events n m
         → Contains (told_as kept (ruled_at receives files events n) (names n)) (records_at receives files events n (Some d))
-    told_received m d before sends received =
+    told_from m d before sends received =
         let name : names d ≡ names n = (apart d n m m (inl sends) (inr received)).1 refl in
-        let some : IsSome (send_of messages.sent (names n)) =
-        subst (λ x. IsSome (send_of messages.sent x)) name (whole.sent d m before sends) in
-        subst (λ kind. Tells kind (records_at receives files events n (Some d))) (sym received.kind)
-        (tells_received m d before sends received (send_of messages.sent (names n)) refl some)
+        told_remembered receives files names events n exists (nodes n exists) kept known apart once m d sends received
+        (subst (λ x. IsSome (send_of messages.sent x)) name (whole.sent d m before sends))
 
     told_waited : (e m : ℕ) → e < n → Sends events n m → ReceivesMessage events e m
         → Contains (told_as kept (ruled_at receives files events n) (names n)) (records_at receives files events e (Some n))
@@ -314,7 +298,7 @@ module _ (receives : Receives) (keep : ℕ) (files : ℕ → ℕ) (names : ℕ �
       | inl less ↦
           let at : e ≡ max e d = omega arith in
           subst (λ n. IsToldAt receives keep files names events n (records_at receives files events e (Some d))) at
-          (told_received e exists (before_n e exists) (known_n e exists) (whole_n e exists) m d less sends received)
+          (told_from e exists (before_n e exists) (known_n e exists) (whole_n e exists) m d less sends received)
       | inr more ↦
           let at : d ≡ max e d = omega arith in
           subst (λ n. IsToldAt receives keep files names events n (records_at receives files events e (Some d))) at

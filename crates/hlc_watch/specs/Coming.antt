@@ -1,5 +1,5 @@
 -- The events of a log as they come: their places are in the order of its lines.
-use Rattle.std.specs.Prelude.{◌≡◌, ◌≢◌, ◌⊎◌, ◌↔◌, ◌==◌, ◌<◌, ◌≤◌, ℕ, zero, suc, List, Option, Some, None, if◌then◌else◌, length, map, max, option_map}
+use Rattle.std.specs.Prelude.{◌≡◌, ◌≢◌, ◌⊎◌, ◌↔◌, ◌==◌, ◌+◌, ◌<◌, ◌≤◌, ℕ, zero, suc, List, Option, Some, None, if◌then◌else◌, length, map, max, option_map}
 use Rattle.hlc_stamp.specs.Order.{Pair}
 use Rattle.hlc_causality.specs.declared.receives.Receives.{Receives}
 use Rattle.hlc_causality.specs.ClockEvents.{ClockEvents}
@@ -7,6 +7,8 @@ use Rattle.hlc_causality.specs.ReceiveEvents.{clock_events}
 use Rattle.hlc_causes.specs.declared.answers.Causes.{Causes}
 use Rattle.hlc_causes.specs.Seen.{seen_at}
 use Rattle.hlc_log.specs.declared.log_event.LogEvent.{LogEvent}
+use Rattle.hlc_log.specs.declared.log_event.LogKind.{LogKind}
+use Rattle.hlc_log.specs.declared.log_event.LogKind.TheVariants as kind
 use Rattle.hlc_log.specs.CausalOrder.{place_at}
 use Rattle.hlc_log.specs.Events.{event_at}
 use Rattle.hlc_log.specs.Messages.{Receives as ReceivesMessage, Sends, SendsTo}
@@ -67,6 +69,15 @@ records_at receives files events e send = record {
 abbrev pub last_needed : ℕ → (send : Option ℕ) → ℕ
 last_needed e None = e
 last_needed e (Some d) = max e d
+
+-- how many of the first n events send a message
+abbrev pub send_weight : LogKind → ℕ
+send_weight (kind.Send message) = 1
+send_weight _ = 0
+
+abbrev pub sent_count : List LogEvent → ℕ → ℕ
+sent_count events zero = 0
+sent_count events (suc n) = sent_count events n + send_weight (event_at events n).kind
 
 -- the events of each node come as they stand there
 abbrev pub NodesStandAsTheyCome : List LogEvent → Type 0

@@ -6,10 +6,10 @@ use Rattle.hlc_causes.specs.Causes.{NamesCauses}
 use Rattle.hlc_log.specs.declared.log_event.LogEvent.{LogEvent}
 use Rattle.hlc_log.specs.CausalOrder.{IsCausalOrder, place_at}
 use Rattle.hlc_log.specs.Events.{event_at}
-use Rattle.hlc_log.specs.Messages.{EachIsSentOnce}
+use Rattle.hlc_log.specs.Messages.{EachIsSentOnce, SendsTo}
 use Rattle.hlc_watch.specs.declared.records.Records.{Records}
 use Rattle.hlc_watch.specs.declared.ruled_event.RuledEvent.{RuledEvent}
-use Rattle.hlc_watch.specs.Coming.{LinesDiffer, NamesSender, NodesStandAsTheyCome, TellApart, by_lines, clocks_in, last_needed, records_at, ruled_at, seen_in}
+use Rattle.hlc_watch.specs.Coming.{LinesDiffer, NamesSender, NodesStandAsTheyCome, TellApart, by_lines, clocks_in, last_needed, records_at, ruled_at, seen_in, sent_count}
 use Rattle.hlc_watch.specs.Kept.{receive_count}
 use Rattle.hlc_watch.specs.Records.{line_causes}
 use Rattle.hlc_watch.specs.Watching.{KeptLog, after_event, event_of, no_log, waited_of}
@@ -57,6 +57,12 @@ abbrev pub TellsAll : Type 0
 TellsAll = (receives : Receives) (keep : ℕ) (files : ℕ → ℕ) (names : ℕ → List ℕ) (events : List LogEvent) (e : ℕ) (send : Option ℕ) →
     AreFewNodes events → TellApart names events → EachIsSentOnce events → length events ≤ keep → e < length events → NamesSender events e send →
     IsToldAt receives keep files names events (last_needed e send) (records_at receives files events e send)
+
+-- a receive whose send came before it is told as it comes, if since then no more messages were sent than are kept, that one among them
+abbrev pub TellsLatest : Type 0
+TellsLatest = (receives : Receives) (keep : ℕ) (files : ℕ → ℕ) (names : ℕ → List ℕ) (events : List LogEvent) (d e : ℕ) →
+    AreFewNodes events → TellApart names events → EachIsSentOnce events → d < e → SendsTo events d e →
+    sent_count events e ≤ sent_count events d + keep → IsToldAt receives keep files names events e (records_at receives files events e (Some d))
 
 -- how many records are told as the first n events come
 abbrev pub told_count : Receives → (keep : ℕ) → (files : ℕ → ℕ) → (names : ℕ → List ℕ) → List LogEvent → ℕ → ℕ

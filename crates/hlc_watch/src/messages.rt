@@ -86,9 +86,9 @@ impl<S: BuildHasher + Drop> Messages<S> {
         ensures kept { OnOk result (self.new ≡ after_wait self.old message.now records) }
         ensures unchanged { OnErr result (self.new ≡ self.old) }
     {
-        let name = Bytes::from_slice(self.alloc, message)?;
+        let message = Bytes::from_slice(self.alloc, message)?;
         let is_full = self.sent.keep() <= self.awaited.count();
-        self.awaited.push(name, records)?;
+        self.awaited.push(message, records)?;
         let forgotten = if is_full { self.awaited.forget() } else { 0 };
         self.forgotten = self.forgotten.saturating_add(forgotten as u64);
         Ok(())

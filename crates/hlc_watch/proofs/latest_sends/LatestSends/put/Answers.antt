@@ -1,10 +1,10 @@
-use Rattle.std.proofs.Common.{◌≡◌, ◌∙◌, ◌+◌, ◌%◌, ◌<◌, ◌≤◌, List, ℕ, arith, ap, length, subst, sym}
+use Rattle.std.proofs.Common.{◌≡◌, ◌∙◌, ◌+◌, ◌%◌, ◌<◌, ◌≤◌, List, ℕ, arith, ap, length}
 use Rattle.std.specs.Prelude.{bytes_eq}
 use Rattle.std.specs.List.{swap_remove}
 use Rattle.indexmap.specs.IndexMap.{insert_entry}
 use Rattle.hlc_watch.specs.declared.records.Claimed.{Claimed}
 use Rattle.hlc_watch.specs.Kept.{KeptSends, with_sent}
-use Rattle.hlc_watch.specs.Ring.{IsRing, items_from}
+use Rattle.hlc_watch.specs.Ring.{items_from}
 use Rattle.hlc_watch.proofs.Rings.{if_there, put_kept, put_over}
 use Rattle.hlc_watch.proofs.latest_sends.LatestSends.put.Goals as goal
 

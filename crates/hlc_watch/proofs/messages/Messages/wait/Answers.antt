@@ -9,7 +9,7 @@ invariant_of-self-2 g c =
     let keep = c.self.inside.sent.keep in
     let awaited = c.self.inside.awaited in
     let m = c.args.message.now in
-    let more = c.in_ok-push.ensures.waits ∙ ap (λ (x : List ℕ). with_receive awaited x c.args.records) c.in_ok-name.ensures.ok in
+    let more = c.in_ok-push.ensures.waits ∙ ap (λ (x : List ℕ). with_receive awaited x c.args.records) c.in_ok-message.ensures.ok in
     elim c.if-is_full.branch [
       | then-is_full w ↦ rw (w.self-inside-is, w.forget-forgotten.ensures.others, more) (bounded_without keep m awaited c.args.records c.self.invariant)
       | else-is_full w ↦
