@@ -16,7 +16,7 @@ use Rattle.hlc_watch.specs.declared.message_role.MessageRole.{MessageRole}
 use Rattle.hlc_watch.specs.declared.message_role.MessageRole.TheVariants as role
 use Rattle.hlc_watch.specs.declared.records.Claimed.{Claimed}
 use Rattle.hlc_watch.specs.declared.records.Records.{Records}
-use Rattle.hlc_watch.specs.Coming.{TellApart, claimed_at, records_at, ruled_at, send_weight, sent_count}
+use Rattle.hlc_watch.specs.Coming.{TellApart, claimed_at, records_at, ruled_at, sends_in, sent_count}
 use Rattle.hlc_watch.specs.Kept.{KeptMessages, KeptSends, latest, received_from, send_of}
 use Rattle.hlc_watch.specs.Laws.{AreFewNodes, IsToldAt, TellsLatest, kept_after}
 use Rattle.hlc_watch.specs.Records.{role_of}
@@ -107,7 +107,7 @@ module _ (receives : Receives) (keep : ℕ) (files : ℕ → ℕ) (names : ℕ �
       ∙ ap (latest (kept n).messages.sent.keep) (put_new (names n) (claimed_at files events n) (kept n).messages.sent.sends (is_new n m sends))
       ∙ ap (λ k. latest k (more_sent n)) (keep_is n)
 
-  same_by : (n : ℕ) (kind : LogKind) → send_weight kind ≡ 0 → sent_by n kind ≡ (kept n).messages.sent
+  same_by : (n : ℕ) (kind : LogKind) → sends_in kind ≡ 0 → sent_by n kind ≡ (kept n).messages.sent
   same_by n Local none = refl
   same_by n Restart none = refl
   same_by n Outside none = refl
@@ -126,7 +126,7 @@ module _ (receives : Receives) (keep : ℕ) (files : ℕ → ℕ) (names : ℕ �
       pub count : length after + suc (sent_count events d) ≡ sent_count events n
 
     one_sent : (n k : ℕ) → Sends events n k → sent_count events (suc n) ≡ suc (sent_count events n)
-    one_sent n k now = let weight = ap send_weight now.kind in omega arith
+    one_sent n k now = let weight = ap sends_in now.kind in omega arith
 
     begins : sent_count events (suc d) ≤ sent_count events d + keep → IsRemembered (suc d)
     begins few =
@@ -156,9 +156,9 @@ module _ (receives : Receives) (keep : ℕ) (files : ℕ → ℕ) (names : ℕ �
             count = omega arith;
           }
 
-      no_more : (kind : LogKind) → (event_at events n).kind ≡ kind → send_weight kind ≡ 0 → IsRemembered (suc n)
+      no_more : (kind : LogKind) → (event_at events n).kind ≡ kind → sends_in kind ≡ 0 → IsRemembered (suc n)
       no_more kind is none =
-          let weight = ap send_weight is in
+          let weight = ap sends_in is in
           let count = remembered.count in
           record {
             before = remembered.before;

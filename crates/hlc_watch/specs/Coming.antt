@@ -70,14 +70,15 @@ abbrev pub last_needed : ℕ → (send : Option ℕ) → ℕ
 last_needed e None = e
 last_needed e (Some d) = max e d
 
--- how many of the first n events send a message
-abbrev pub send_weight : LogKind → ℕ
-send_weight (kind.Send message) = 1
-send_weight _ = 0
+-- how many messages an event sends
+abbrev pub sends_in : LogKind → ℕ
+sends_in (kind.Send message) = 1
+sends_in _ = 0
 
+-- the first n events of a list together
 abbrev pub sent_count : List LogEvent → ℕ → ℕ
 sent_count events zero = 0
-sent_count events (suc n) = sent_count events n + send_weight (event_at events n).kind
+sent_count events (suc n) = sent_count events n + sends_in (event_at events n).kind
 
 -- the events of each node come as they stand there
 abbrev pub NodesStandAsTheyCome : List LogEvent → Type 0
