@@ -3,7 +3,7 @@ use Rattle.std.proofs.Common.{◌≡◌, ◌∙◌, ℕ, zero, suc, ◌+◌, ◌
 use Rattle.std.specs.Prelude.{bytes_eq}
 use Rattle.std.specs.Map.{lookup}
 use Rattle.std.proofs.lemmas.Bool.{cases_Bool, cases_order}
-use Rattle.std.proofs.lemmas.List.{append_assoc, length-append}
+use Rattle.std.proofs.lemmas.List.{append_assoc, drop-append-le, length-append}
 use Rattle.lru.proofs.CallerLemmas.{Contains-lookup}
 use Rattle.hlc_causality.specs.declared.receives.Receives.{Receives}
 use Rattle.hlc_log.specs.declared.log_event.LogEvent.{LogEvent}
@@ -26,14 +26,9 @@ use Rattle.hlc_watch.proofs.Knowledge.{IsKnown, known_after, told_remembered}
 use Rattle.hlc_watch.proofs.Rings.{put_new}
 
 module _ {Y : Type 0} where
-  drop_less : (n : ℕ) (xs ys : List Y) → n ≤ length xs → drop n (xs ++ ys) ≡ drop n xs ++ ys
-  drop_less zero xs ys less = refl
-  drop_less (suc n) [] ys less = absurd (omega arith)
-  drop_less (suc n) (x ∷ xs) ys less = drop_less n xs ys (omega arith)
-
   -- so many of the end of a list stay
   latest_end : (keep : ℕ) (xs ys : List Y) → length ys ≤ keep → latest keep (xs ++ ys) ≡ drop (length (xs ++ ys) - keep) xs ++ ys
-  latest_end keep xs ys few = let all = length-append xs ys in drop_less (length (xs ++ ys) - keep) xs ys (omega arith)
+  latest_end keep xs ys few = let all = length-append xs ys in drop-append-le (length (xs ++ ys) - keep) xs ys (omega arith)
 
 -- a name that stands in a list is found
 found_there : {X : Type 0} (k : List ℕ) (v : X) (xs ys : List (List ℕ × X)) → IsSome (lookup (bytes_eq k) (xs ++ (k, v) ∷ ys))

@@ -5,56 +5,26 @@ use Rattle.std.specs.List.{AllByRecursion, IsDistinct, swap_remove}
 use Rattle.std.specs.Map.{keys_of, lookup}
 use Rattle.std.proofs.lemmas.Bool.{cases_Bool, cases_order}
 use Rattle.std.proofs.Math.Nat.{mod-eq_of_lt, mod_self}
-use Rattle.std.proofs.lemmas.List.{append-nil, append_assoc, drop_all, length-append, length-drop, length-set, length-take, take-append-drop, take_all}
+use Rattle.std.proofs.lemmas.List.{append-nil, append_assoc, drop_all, drop_at, get_or_push, length-append, length-drop, length-set, length-take-le, set-append_left, set_split, take-append-drop, take_all, take_at}
 use Rattle.indexmap.specs.IndexMap.{insert_entry}
 use Rattle.hlc_watch.specs.Kept.{latest}
 use Rattle.hlc_watch.specs.Ring.{IsRing, items_from}
 use Rattle.hlc_watch.proofs.Entries.{latest_all, same_name}
 
 module _ {X : Type 0} where
-  drop_first : (ls rs : List X) (i : ℕ) → length ls ≡ i → drop i (ls ++ rs) ≡ rs
-  drop_first [] rs zero len = refl
-  drop_first [] rs (suc i) len = absurd (omega arith)
-  drop_first (a ∷ ls) rs zero len = absurd (omega arith)
-  drop_first (a ∷ ls) rs (suc i) len = drop_first ls rs i (omega arith)
-
-  take_first : (ls rs : List X) (i : ℕ) → length ls ≡ i → take i (ls ++ rs) ≡ ls
-  take_first [] rs zero len = refl
-  take_first [] rs (suc i) len = absurd (omega arith)
-  take_first (a ∷ ls) rs zero len = absurd (omega arith)
-  take_first (a ∷ ls) rs (suc i) len = ap (λ rest. a ∷ rest) (take_first ls rs i (omega arith))
-
   -- from the end of a part on
   from_part : (ls rs : List X) (i : ℕ) → length ls ≡ i → items_from i (ls ++ rs) ≡ rs ++ ls
-  from_part ls rs i len = (λ j. drop_first ls rs i len j ++ take_first ls rs i len j)
-
-  length_first : (xs : List X) (i : ℕ) → i ≤ length xs → length (take i xs) ≡ i
-  length_first xs i within = let is = length-take i xs in omega arith
+  from_part ls rs i len = (λ j. drop_at ls rs i len j ++ take_at ls rs i len j)
 
   -- the last of a list in a place of the others
-  set_push : (xs : List X) (x : X) (i : ℕ) → i < length xs → set (xs ++ x ∷ []) i x ≡ set xs i x ++ x ∷ []
-  set_push [] x i within = absurd (omega arith)
-  set_push (y ∷ xs) x zero within = refl
-  set_push (y ∷ xs) x (suc i) within = ap (λ rest. y ∷ rest) (set_push xs x i (omega arith))
-
-  last_pushed : (xs : List X) (x d : X) → get_or (xs ++ x ∷ []) (length xs) d ≡ x
-  last_pushed [] x d = refl
-  last_pushed (y ∷ xs) x d = last_pushed xs x d
-
-  set_apart : (xs : List X) (x : X) (i : ℕ) → i < length xs → set xs i x ≡ (take i xs ++ x ∷ []) ++ drop (suc i) xs
-  set_apart [] x i within = absurd (omega arith)
-  set_apart (y ∷ xs) x zero within = refl
-  set_apart (y ∷ xs) x (suc i) within = ap (λ rest. y ∷ rest) (set_apart xs x i (omega arith))
-
   replaced : (xs : List X) (x d : X) (i : ℕ) → i < length xs → swap_remove (xs ++ x ∷ []) i d ≡ (take i xs ++ x ∷ []) ++ drop (suc i) xs
   replaced xs x d i within =
       let all = length-append xs (x ∷ []) in
       let last : length (xs ++ x ∷ []) - 1 ≡ length xs = omega arith in
-      let same = length-set xs i x in
       ap (λ n. take n (set (xs ++ x ∷ []) i (get_or (xs ++ x ∷ []) n d))) last
-      ∙ ap (λ y. take (length xs) (set (xs ++ x ∷ []) i y)) (last_pushed xs x d)
-      ∙ ap (take (length xs)) (set_push xs x i within)
-      ∙ take_first (set xs i x) (x ∷ []) (length xs) same ∙ set_apart xs x i within
+      ∙ ap (λ y. take (length xs) (set (xs ++ x ∷ []) i y)) (get_or_push xs x d (length xs) refl)
+      ∙ ap (take (length xs)) (set-append_left xs (x ∷ []) i x within)
+      ∙ take_at (set xs i x) (x ∷ []) (length xs) (length-set xs i x) ∙ set_split xs i x within ∙ sym (append_assoc (take i xs) (x ∷ []) (drop (suc i) xs))
 
   -- without its first item, a list that goes round goes on from the next place
   drop_next : (xs ys : List X) (i : ℕ) → i < length xs → drop 1 (drop i xs ++ ys) ≡ drop (suc i) xs ++ ys
@@ -208,7 +178,7 @@ module _ {X : Type 0} (m : List ℕ) where
             let within = ring.within in
             let size = length_around in
             ap (λ xs. items_from first (put xs)) (sym whole)
-            ∙ put_turned ls rs w first (length_first es first starts) once there
+            ∙ put_turned ls rs w first (length-take-le first es starts) once there
             ∙ sym (latest_all places (put around) (omega arith))
 
         pub put_kept : items_from first (put es) ≡ latest places (put around)
@@ -260,7 +230,7 @@ module _ {X : Type 0} (m : List ℕ) where
 
         length_upto : length upto ≡ suc first
         length_upto =
-            let first_part = length_first es first starts in
+            let first_part = length-take-le first es starts in
             let one = length-append (take first es) ((m, v) ∷ []) in
             omega arith
 

@@ -70,6 +70,7 @@ impl<S: BuildHasher + Drop> LatestSends<S> {
     {
         self.claims.insert(message, claimed)?;
         if self.claims.len() > self.keep {
+            // The new one, which is the last, takes that place.
             self.claims.swap_remove_index(self.first);
             self.first = (self.first + 1) % self.keep;
         }
