@@ -120,7 +120,8 @@ fn add<S: BuildHasher + Drop>(
     }
     let has_room = receives.len() < usize::MAX;
     prove!(has_room);
-    let mut first = Vec::new(alloc);
+    // Most messages have one receive.
+    let mut first = Vec::with_capacity(alloc, 1)?;
     first.push(records)?;
     receives.put(message, first)?;
     Ok(())

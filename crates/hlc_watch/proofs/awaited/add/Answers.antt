@@ -22,4 +22,4 @@ returns-clause-waits g c =
     let few : length es ≤ cap - 1 = omega arith in
     let none : is_some (lookup (bytes_eq c.args.message) es) ≡ false = sym c.contains.ensures ∙ c.if-contains.false in
     ap (λ (cache : LruCache _ _). lists_of cache.entries) c.in_ok-put.ensures.entries
-    ∙ put_first c.args.message cap es c.push.new.self c.args.records few (c.in_ok-push.ensures.items ∙ ap (λ ws. ws ++ c.args.records ∷ []) c.new-first.ensures.items) none
+    ∙ put_first c.args.message cap es c.push.new.self c.args.records few (c.in_ok-push.ensures.items ∙ ap (λ ws. ws ++ c.args.records ∷ []) c.in_ok-first.ensures.items) none
