@@ -96,21 +96,22 @@ place_pieces fields = said (codes "    ") ∷ line 2 ∷ stamps_pieces (field_of
 abbrev pub row_pieces : TextSection → List ToldPiece
 row_pieces section.Bad = said (codes "  ") ∷ line 1 ∷ said (codes ": ") ∷ plain 2 ∷ said (codes " ") ∷ plain 3 ∷ said (codes "\n") ∷ []
 row_pieces section.Messages =
-    plain 1 ∷ said (codes " messages sent, ") ∷ plain 2 ∷ said (codes " received, ") ∷ plain 3 ∷ said (codes " more than once, ") ∷ plain 4
+    said (codes "Messages: ") ∷ plain 1 ∷ said (codes " sent, ") ∷ plain 2 ∷ said (codes " received, ") ∷ plain 3 ∷ said (codes " more than once, ") ∷ plain 4
     ∷ said (codes " never.\n") ∷ []
 row_pieces section.Group = []
 row_pieces section.Answers = said (codes "  ") ∷ plain 0 ∷ rest 1 ∷ said (codes "\n") ∷ []
 row_pieces section.Node = left 1 18 ∷ right 2 10 ∷ right 3 13 ∷ said (codes "  ") ∷ left 4 20 ∷ plain 5 ∷ said (codes "\n") ∷ []
 row_pieces section.Skew = left 1 18 ∷ left 2 18 ∷ right 3 11 ∷ said (codes "  ") ∷ left 4 20 ∷ plain 5 ∷ said (codes "\n") ∷ []
 row_pieces section.Over = left 1 18 ∷ right 2 10 ∷ right 4 13 ∷ said (codes "  ") ∷ left 3 20 ∷ plain 5 ∷ said (codes "\n") ∷ []
-row_pieces section.Skipped = plain 1 ∷ said (codes " lines or records were skipped, first at ") ∷ line 2 ∷ said (codes ".\n") ∷ []
+row_pieces section.Skipped =
+    said (codes "Lines or records that were skipped: ") ∷ plain 1 ∷ said (codes ", first at ") ∷ line 2 ∷ said (codes ".\n") ∷ []
 row_pieces section.LeftOut =
-    plain 2 ∷ said (codes " records were left out, bad by `") ∷ plain 1 ∷ said (codes "`, first at ") ∷ line 3 ∷ said (codes ".\n") ∷ []
-row_pieces section.Unsent = plain 1 ∷ said (codes " receives of what no line sends were taken as local events.\n") ∷ []
-row_pieces section.Resent = plain 1 ∷ said (codes " sends sent a message again.\n") ∷ []
-row_pieces section.Outside = plain 1 ∷ said (codes " receives are from outside: no line sends what they received.\n") ∷ []
-row_pieces section.Unread = plain 1 ∷ said (codes " events have no reading.\n") ∷ []
-row_pieces section.Unstamped = plain 1 ∷ said (codes " receives have no stamp.\n") ∷ []
+    said (codes "Records that were left out, bad by `") ∷ plain 1 ∷ said (codes "`: ") ∷ plain 2 ∷ said (codes ", first at ") ∷ line 3 ∷ said (codes ".\n") ∷ []
+row_pieces section.Unsent = said (codes "Receives of what no line sends, taken as local events: ") ∷ plain 1 ∷ said (codes ".\n") ∷ []
+row_pieces section.Resent = said (codes "Sends of a message that was sent before: ") ∷ plain 1 ∷ said (codes ".\n") ∷ []
+row_pieces section.Outside = said (codes "Receives from outside, of what no line sends: ") ∷ plain 1 ∷ said (codes ".\n") ∷ []
+row_pieces section.Unread = said (codes "Events without a reading: ") ∷ plain 1 ∷ said (codes ".\n") ∷ []
+row_pieces section.Unstamped = said (codes "Receives without a stamp: ") ∷ plain 1 ∷ said (codes ".\n") ∷ []
 row_pieces section.Units =
     said (codes "L is about ") ∷ plain 1 ∷ said (codes " times each reading: they look as if they had different units.\n") ∷ []
 
