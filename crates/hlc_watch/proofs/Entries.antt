@@ -1,6 +1,6 @@
 -- Look-ups of names in lists of entries.
-use Rattle.std.proofs.Common.{◌≡◌, ◌≢◌, ◌∙◌, ℕ, zero, suc, ◌+◌, ◌-◌, ◌≤◌, true, false, ◌⊎◌, cond, List, [], ◌∷◌, Some, length, take, drop, Contains, arith, inl, inr, refl, sym, ap, subst}
-use Rattle.std.specs.Prelude.{bytes_eq, if◌then◌else◌}
+use Rattle.std.proofs.Common.{◌≡◌, ◌≢◌, ◌∙◌, ℕ, zero, suc, ◌+◌, ◌-◌, ◌<◌, ◌≤◌, true, false, ◌⊎◌, cond, List, [], ◌∷◌, Some, length, take, drop, Contains, arith, inl, inr, refl, sym, ap, subst}
+use Rattle.std.specs.Prelude.{bytes_eq, if◌then◌else◌, slice_get}
 use Rattle.std.specs.Map.{lookup, lookup_entry, remove_entry}
 use Rattle.std.proofs.lemmas.Bool.{cases_Bool}
 use Rattle.std.proofs.lemmas.List.{length-drop, take-append-drop}
@@ -30,11 +30,11 @@ differ_by_test a b test same = let bad : true ≡ false = sym (is_name a b same)
 other_fails : (m k n : List ℕ) → m ≢ k → bytes_eq k n ≡ true → bytes_eq m n ≡ false
 other_fails m k n differ test = other_name m n (λ same. differ (same ∙ sym (same_name k n test)))
 
-pub take-all : {Y : Type 0} (n : ℕ) (ys : List Y) → length ys ≤ n → take n ys ≡ ys
-take-all zero [] few = refl
-take-all zero (y ∷ ys) few = absurd (omega arith)
-take-all (suc n) [] few = refl
-take-all (suc n) (y ∷ ys) few = ap (λ rest. y ∷ rest) (take-all n ys (omega arith))
+-- what stands in a place that is within a list
+pub some_at : {Y : Type 0} (ys : List Y) (i : ℕ) → i < length ys → (y : Y) × (slice_get ys i ≡ Some y)
+some_at [] i within = absurd (omega arith)
+some_at (y ∷ ys) zero within = (y, refl)
+some_at (y ∷ ys) (suc i) within = some_at ys i (omega arith)
 
 module _ {X : Type 0} where
   -- other entries stay as they are

@@ -1,5 +1,5 @@
 -- The receives that wait, as they are kept.
-use Rattle.std.proofs.Common.{◌≡◌, ◌∙◌, ℕ, ◌+◌, ◌-◌, ◌<◌, ◌≤◌, true, false, cond, zero, suc, List, [], ◌∷◌, ◌++◌, Option, Some, None, take, length, arith, inl, inr, refl, sym, ap}
+use Rattle.std.proofs.Common.{◌≡◌, ◌∙◌, ℕ, ◌+◌, ◌-◌, ◌≤◌, true, false, cond, zero, suc, List, [], ◌∷◌, ◌++◌, Option, Some, None, take, length, arith, inl, inr, refl, sym, ap}
 use Rattle.std.specs.Prelude.{is_some, bytes_eq, option_map, slice_get, unwrap_or}
 use Rattle.std.specs.Map.{lookup, lookup_entry, remove_entry, set_value}
 use Rattle.std.specs.Option.{option_map_or}
@@ -9,13 +9,14 @@ use Rattle.std.specs.declared.result.Result.TheVariants.{Err, Ok}
 use Rattle.std.specs.declared.vec.Vec.{Vec}
 use Rattle.std.specs.declared.alloc.Global.{Global}
 use Rattle.std.proofs.lemmas.Bool.{cases_Bool}
+use Rattle.std.proofs.lemmas.List.{take_all}
 use Rattle.std.proofs.lemmas.Map.Entries.{sum_by-remove_entry}
 use Rattle.lru.specs.LruCache.{last_entry, lru_cache, promoted, put_entries}
 use Rattle.hlc_watch.specs.declared.records.Records.{Records}
 use Rattle.hlc_watch.specs.Kept.{receive_count, waiting_for, with_receive}
 use Rattle.hlc_watch.specs.Lists.{lists_of}
 use Rattle.hlc_watch.proofs.Bounds.{count-first}
-use Rattle.hlc_watch.proofs.Entries.{found_value, same_name, take-all}
+use Rattle.hlc_watch.proofs.Entries.{found_value, same_name, some_at}
 
 abbrev pub items_of : Vec Records Global → List Records
 items_of v = v.items
@@ -137,7 +138,7 @@ module _ (m : List ℕ) where
       → (o : Option (List ℕ × Vec Records Global)) → lookup_entry (bytes_eq m) es ≡ o → is_some (lookup (bytes_eq m) es) ≡ false
       → lists_of (option_map_or (λ e. (e.0, v) ∷ remove_entry (bytes_eq m) es) o ((m, v) ∷ take (cap - 1) es)) ≡ with_receive (lists_of es) m records
   put_by cap es v records few is None entry none =
-      ap (λ rest. (m, v.items) ∷ lists_of rest) (take-all (cap - 1) es few)
+      ap (λ rest. (m, v.items) ∷ lists_of rest) (take_all (cap - 1) es few)
       ∙ ap (λ ws. (m, ws) ∷ lists_of es) (is ∙ ap (λ ws. ws ++ records ∷ []) (sym (waiting_none m es none)))
       ∙ ap (λ rest. (m, waiting_for (lists_of es) m ++ records ∷ []) ∷ rest) (sym (remove_none (lists_of es) (is_some_lists es ∙ none)))
   put_by cap es v records few is (Some e) entry none =
@@ -187,12 +188,7 @@ last_count (e ∷ es) x is = last_by (e ∷ es) (length (e ∷ es) - 1) x (omega
 
 pub none_last : (es : List (List ℕ × Vec Records Global)) → last_entry es ≡ None → es ≡ []
 none_last [] is = refl
-none_last (e ∷ es) is = let some = there (e ∷ es) (length (e ∷ es) - 1) (omega arith) in (let bad : Some some.0 ≡ None = sym some.1 ∙ is in absurd cc)
-  where
-    there : (fs : List (List ℕ × Vec Records Global)) (n : ℕ) → n < length fs → (x : List ℕ × Vec Records Global) × (slice_get fs n ≡ Some x)
-    there [] n less = absurd (omega arith)
-    there (f ∷ fs) zero less = (f, refl)
-    there (f ∷ fs) (suc n) less = there fs n (omega arith)
+none_last (e ∷ es) is = let some = some_at (e ∷ es) (length (e ∷ es) - 1) (omega arith) in (let bad : Some some.0 ≡ None = sym some.1 ∙ is in absurd cc)
 
 -- what holds after any answer holds after an error
 pub on_err_so : {T E P : Type 0} (r : Result T E) → P → OnErr r P

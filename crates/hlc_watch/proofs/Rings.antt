@@ -9,7 +9,7 @@ use Rattle.std.proofs.lemmas.List.{append-nil, append_assoc, drop_all, drop_at, 
 use Rattle.indexmap.specs.IndexMap.{insert_entry}
 use Rattle.hlc_watch.specs.Kept.{latest}
 use Rattle.hlc_watch.specs.Ring.{IsRing, items_from}
-use Rattle.hlc_watch.proofs.Entries.{latest_all, same_name}
+use Rattle.hlc_watch.proofs.Entries.{latest_all, same_name, some_at}
 
 module _ {X : Type 0} where
   -- from the end of a part on
@@ -32,12 +32,7 @@ module _ {X : Type 0} where
   drop_next (x ∷ xs) ys zero within = refl
   drop_next (x ∷ xs) ys (suc i) within = drop_next xs ys i (omega arith)
 
--- what stands in a place that is within a list
-some_at : {X : Type 0} (xs : List X) (i : ℕ) → i < length xs → (x : X) × (slice_get xs i ≡ Some x)
-some_at [] i within = absurd (omega arith)
-some_at (x ∷ xs) zero within = (x, refl)
-some_at (x ∷ xs) (suc i) within = some_at xs i (omega arith)
-
+-- what is so of the item in a place that is within a list, if there is one
 pub if_there : {X : Type 0} (P : X → Type 0) (xs : List X) (i : ℕ) (o : Option X) → i < length xs → o ≡ slice_get xs i → IfSome o P → (x : X) × P x
 if_there P xs i None within is if_some = let there = some_at xs i within in (let bad : None ≡ Some there.0 = is ∙ there.1 in absurd cc)
 if_there P xs i (Some x) within is if_some = (x, if_some)
@@ -158,7 +153,7 @@ module _ {X : Type 0} (m : List ℕ) where
       new_around : find es ≡ None → put around ≡ around ++ (m, v) ∷ []
       new_around none = put_new around (find_in_ring places first es ring ∙ none)
 
-      -- ls long ls there is room
+      -- as long as there is room
       module _ (room : length (put es) ≤ places) where
         kept_by : (o : Option X) → find es ≡ o → items_from first (put es) ≡ latest places (put around)
         kept_by None none =
@@ -183,22 +178,6 @@ module _ {X : Type 0} (m : List ℕ) where
 
         pub put_kept : items_from first (put es) ≡ latest places (put around)
         put_kept = kept_by (find es) refl
-
-        pub ring_kept : IsDistinct bytes_eq (keys_of (put es)) → IsRing places first (put es)
-        ring_kept once = record {
-          begins = ring.begins;
-          within = room;
-          partly = λ less. ring.partly (let grown = length_grown in omega arith);
-          fits = ring.fits;
-          once = once;
-        }
-          where
-            grown_by : (o : Option X) → find es ≡ o → length es ≤ length (put es)
-            grown_by None none = let more = ap length (put_new es none) in let one = length-append es ((m, v) ∷ []) in omega arith
-            grown_by (Some w) found = let same = length_put es w found in omega arith
-
-            length_grown : length es ≤ length (put es)
-            length_grown = grown_by (find es) refl
 
       -- where there is none, the last takes the place of the first
       module _ (full : places < length (put es)) (d : List ℕ × X) where
@@ -271,12 +250,3 @@ module _ {X : Type 0} (m : List ℕ) where
             | inr more ↦ let begins = ring.begins in absurd (omega arith)
           ]
         ])
-
-        pub ring_turned : (i : ℕ) → i < places → IsDistinct bytes_eq (keys_of next) → IsRing places i next
-        ring_turned i begins once = record {
-          begins = begins;
-          within = let all = length_next in omega arith;
-          partly = λ less. let all = length_next in absurd (omega arith);
-          fits = ring.fits;
-          once = once;
-        }

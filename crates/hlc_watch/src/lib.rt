@@ -10,10 +10,11 @@
 //! - `Records::causes` says which rules an event breaks: its `LineCauses`, which name other events by their lines.
 //! - A `RuledEvent` is an event of a log (`hlc_log`) as a clock rule reads it; `new` makes one. A log may be put together of several files, so a
 //!   `FileLine` is a line of one of them.
-//! - Only so many messages are remembered, those that were sent last, and as many receives wait. A receive of a message that is forgotten waits until it is
-//!   forgotten, too: `waiting` and `forgotten` count those that have no causes.
-//! - `laws` says that the causes are those that the events break in any causal order of the log, and that none is missing where nothing is
-//!   forgotten; that each event is told, or waits, or is forgotten; and that the memory is bounded, however long it runs.
+//! - Only so many messages are remembered, those that were sent last, and as many receives wait. A receive of a message that is forgotten waits
+//!   until it is forgotten, too: `waiting` and `forgotten` count those that have no causes.
+//! - `laws` says that the causes are those that the events break in any causal order of the log, that none is missing where nothing is forgotten, and
+//!   that the messages which were sent last are remembered; that each event is told, or waits, or is forgotten; and that the memory is bounded, however
+//!   long it runs.
 //!
 //! It reads no text and looks for no causal order, so it doesn't know whether there is one. A message that is sent twice is the one that was sent
 //! last. An event whose stamp isn't told has none to be judged by: who watches such a log gives it one, or leaves it out.
