@@ -1,10 +1,9 @@
 -- Lists with commas, one item more.
-use Rattle.std.proofs.Common.{◌≡◌, ◌∙◌, ◌+◌, ◌-◌, ◌≤◌, ◌<◌, ◌==◌, Bool, true, false, ℕ, zero, suc, List, [], ◌∷◌, ◌++◌, append_assoc, append-nil, ap, arith, cond, drop, filter, get_or, length, map, refl, rules, sym, take}
+use Rattle.std.proofs.Common.{◌≡◌, ◌∙◌, ◌+◌, ◌-◌, ◌≤◌, ◌<◌, ◌==◌, Bool, true, false, ℕ, zero, suc, List, [], ◌∷◌, ◌++◌, append_assoc, append-nil, ap, arith, drop, filter, get_or, length, map, refl, rules, sym, take}
 use Rattle.std.specs.List.{join_with_byte}
 use Rattle.std.specs.Prelude.{if◌then◌else◌}
 use Rattle.std.proofs.lemmas.Bool.Decides.{nat_tests}
-use Rattle.std.proofs.lemmas.List.{get_or-drop, length-drop, length-take-le, map_push, take_more}
-use Rattle.std.proofs.lemmas.List.Elements.{filter-append}
+use Rattle.std.proofs.lemmas.List.{length-drop, length-take-le, map_push, take_more}
 use Rattle.hlc_csv.specs.Rows.{Fields, field_of}
 use Rattle.hlc_audit_forms.specs.JsonColumn.{member_text}
 use Rattle.hlc_audit_forms.specs.JsonRows.{column_members}

@@ -1,7 +1,6 @@
 -- The lines of a section, one row more.
-use Rattle.std.proofs.Common.{◌≡◌, ◌∙◌, Bool, true, false, ℕ, List, [], ◌∷◌, ◌++◌, append_assoc, append-nil, ap, cond, filter, flat_map, refl, sym}
+use Rattle.std.proofs.Common.{◌≡◌, ◌∙◌, Bool, ℕ, List, [], ◌∷◌, ◌++◌, append_assoc, append-nil, ap, flat_map, sym}
 use Rattle.std.proofs.lemmas.List.Concat.{flat_map-append}
-use Rattle.std.proofs.lemmas.List.Elements.{filter-append}
 use Rattle.hlc_csv.specs.Rows.{Fields}
 use Rattle.hlc_audit_forms.specs.AuditText.{below_title, row_text, title_before}
 use Rattle.hlc_audit_forms.specs.TextSection.{section_title}

@@ -104,9 +104,9 @@ row_pieces section.Node = left 1 18 ∷ right 2 10 ∷ right 3 13 ∷ said (code
 row_pieces section.Skew = left 1 18 ∷ left 2 18 ∷ right 3 11 ∷ said (codes "  ") ∷ left 4 20 ∷ plain 5 ∷ said (codes "\n") ∷ []
 row_pieces section.Over = left 1 18 ∷ right 2 10 ∷ right 4 13 ∷ said (codes "  ") ∷ left 3 20 ∷ plain 5 ∷ said (codes "\n") ∷ []
 row_pieces section.Skipped =
-    said (codes "Lines or records that were skipped: ") ∷ plain 1 ∷ said (codes ", first at ") ∷ line 2 ∷ said (codes ".\n") ∷ []
+    said (codes "Lines or records skipped: ") ∷ plain 1 ∷ said (codes ", first at ") ∷ line 2 ∷ said (codes ".\n") ∷ []
 row_pieces section.LeftOut =
-    said (codes "Records that were left out, bad by `") ∷ plain 1 ∷ said (codes "`: ") ∷ plain 2 ∷ said (codes ", first at ") ∷ line 3 ∷ said (codes ".\n") ∷ []
+    said (codes "Records left out, bad by `") ∷ plain 1 ∷ said (codes "`: ") ∷ plain 2 ∷ said (codes ", first at ") ∷ line 3 ∷ said (codes ".\n") ∷ []
 row_pieces section.Unsent = said (codes "Receives of what no line sends, taken as local events: ") ∷ plain 1 ∷ said (codes ".\n") ∷ []
 row_pieces section.Resent = said (codes "Sends of a message that was sent before: ") ∷ plain 1 ∷ said (codes ".\n") ∷ []
 row_pieces section.Outside = said (codes "Receives from outside, of what no line sends: ") ∷ plain 1 ∷ said (codes ".\n") ∷ []

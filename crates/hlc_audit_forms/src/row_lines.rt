@@ -99,14 +99,14 @@ fn row_pieces(section: TextSection) -> &'static [TextPiece]
             Said(b"\n"),
         ],
         TextSection::Skipped => &[
-            Said(b"Lines or records that were skipped: "),
+            Said(b"Lines or records skipped: "),
             Plain(1),
             Said(b", first at "),
             Line(2),
             Said(b".\n"),
         ],
         TextSection::LeftOut => &[
-            Said(b"Records that were left out, bad by `"),
+            Said(b"Records left out, bad by `"),
             Plain(1),
             Said(b"`: "),
             Plain(2),

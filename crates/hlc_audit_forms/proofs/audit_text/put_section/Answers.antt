@@ -1,6 +1,5 @@
-use Rattle.std.proofs.Common.{◌≡◌, ◌∙◌, ◌<◌, ◌+◌, ◌++◌, ◌∷◌, [], List, ℕ, true, false, ap, arith, filter, get_or, length, map, sym, take, take_all, ◌≤◌}
-use Rattle.std.proofs.lemmas.List.{map_push, take_more}
-use Rattle.csv.specs.Records.{Row, fields_of}
+use Rattle.std.proofs.Common.{◌≡◌, ◌∙◌, ◌+◌, ◌++◌, ◌∷◌, [], List, true, false, ap, arith, filter, length, map, sym, take, take_all, ◌≤◌}
+use Rattle.csv.specs.Records.{fields_of}
 use Rattle.hlc_csv.specs.Rows.{Fields}
 use Rattle.hlc_audit_forms.specs.AuditText.{below_title, is_row_of, section_text}
 use Rattle.hlc_audit_forms.proofs.Lists.{has_none, has_none-more, passed-less, passed-more, rows-more}

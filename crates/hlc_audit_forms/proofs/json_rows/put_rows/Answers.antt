@@ -1,7 +1,6 @@
-use Rattle.std.proofs.Common.{◌≡◌, ◌∙◌, ◌<◌, ◌+◌, ◌++◌, ◌∷◌, [], List, ℕ, true, false, ap, filter, get_or, length, map, sym, take}
+use Rattle.std.proofs.Common.{◌≡◌, ◌∙◌, ◌+◌, ◌++◌, ◌∷◌, [], List, ℕ, true, false, ap, filter, map, sym, take}
 use Rattle.std.specs.List.{join_with_byte}
-use Rattle.std.proofs.lemmas.List.{map_push, take_more}
-use Rattle.csv.specs.Records.{Row, fields_of}
+use Rattle.csv.specs.Records.{fields_of}
 use Rattle.hlc_csv.specs.Rows.{Fields}
 use Rattle.hlc_audit_forms.specs.JsonRows.{is_row_of, row_object}
 use Rattle.hlc_audit_forms.proofs.CommaLists.{item-written, told-less, told-more}

@@ -1,5 +1,5 @@
-use Rattle.std.proofs.Common.{◌≡◌, ◌∙◌, ◌+◌, ◌-◌, ◌≤◌, ◌<◌, ◌++◌, ◌∷◌, List, [], zero, suc, ℕ, ap, arith, drop, flat_map, get_or, length, refl, sym, take, take_all}
-use Rattle.std.proofs.lemmas.List.{flat_map_more, get_or-drop, length-drop, take_more}
+use Rattle.std.proofs.Common.{◌∙◌, ◌-◌, ◌≤◌, ◌<◌, ◌++◌, ap, arith, drop, flat_map, length, sym, take, take_all}
+use Rattle.std.proofs.lemmas.List.{flat_map_more, length-drop}
 use Rattle.csv.specs.Records.{fields_of}
 use Rattle.hlc_csv.specs.Rows.{Fields, field_of}
 use Rattle.hlc_audit_forms.specs.TextPiece.{spaced}

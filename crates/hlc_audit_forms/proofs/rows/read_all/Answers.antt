@@ -1,4 +1,4 @@
-use Rattle.std.proofs.Common.{ℕ, List, [], ◌∷◌, ◌++◌, Some, ◌≡◌, ◌∙◌, map, ap, subst, sym}
+use Rattle.std.proofs.Common.{List, [], ◌∷◌, ◌++◌, Some, ◌≡◌, ◌∙◌, map, ap, subst, sym}
 use Rattle.std.proofs.lemmas.List.{map_push}
 use Rattle.csv.specs.Records.{fields_of}
 use Rattle.csv.specs.Records.{Row}

@@ -1,8 +1,8 @@
-use Rattle.std.proofs.Common.{◌≡◌, ◌∙◌, ◌+◌, ◌≤◌, ◌<◌, ◌&&◌, Bool, true, false, ℕ, List, [], Some, None, ap, arith, codes, cond, drop, get_or, length, map, sym}
+use Rattle.std.proofs.Common.{◌≡◌, ◌∙◌, ◌+◌, ◌≤◌, ◌<◌, ◌&&◌, Bool, true, false, ℕ, List, Some, ap, arith, codes, cond, drop, get_or, length, map, sym}
 use Rattle.std.specs.Prelude.{bytes_eq}
 use Rattle.std.proofs.lemmas.List.{at_drop_all, at_drop_more}
 use Rattle.csv.specs.Records.{Row, fields_of}
-use Rattle.hlc_csv.specs.Rows.{Fields, field_of}
+use Rattle.hlc_csv.specs.Rows.{field_of}
 use Rattle.hlc_audit_forms.specs.Told.{node_row}
 use Rattle.hlc_audit_forms.proofs.telling.node_row.Goals as goal
 
