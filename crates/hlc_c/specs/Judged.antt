@@ -1,5 +1,5 @@
 -- What C keeps of events that were judged.
-use Rattle.hlc_judged.specs.declared.judged.Judged.{Judged}
+use Rattle.hlc_verdict.specs.declared.judged.Judged.{Judged}
 use Rattle.hlc_c.specs.declared.judged.CJudged.{CJudged}
 use Rattle.hlc_c.specs.Stamp.{pair_of}
 

@@ -1,6 +1,6 @@
 use crate::stamp::CStamp;
-use hlc_judged::Judged;
 use hlc_stamp::EventId;
+use hlc_verdict::Judged;
 
 /// What is kept of an event that was judged, as C sees it, or of no event: then all is 0. 40 bytes.
 #[repr(C)]

@@ -1,5 +1,5 @@
 ghost use Rattle.std.specs.Prelude.{◌≡◌, ◌↔◌};
-ghost use Rattle.hlc_judged.specs.Judged.{IsLeastAfter, verdict_after};
+ghost use Rattle.hlc_verdict.specs.Judged.{IsLeastAfter, verdict_after};
 ghost use Rattle.hlc_c.specs.Clock.{CanMerge, IsReading};
 ghost use Rattle.hlc_c.specs.Judged.{judged_from_c};
 ghost use Rattle.hlc_c.specs.Stamp.{pair_of};
@@ -10,8 +10,7 @@ use crate::judged::CJudged;
 use crate::stamp::CStamp;
 use crate::status::{HLC_NO_ROOM, HLC_OK, HLC_READING};
 use crate::verdict::CVerdict;
-use hlc_judged::verdict_after;
-use hlc_verdict::FromVerdict;
+use hlc_verdict::{FromVerdict, verdict_after};
 
 /// What is to be said of the stamp that is claimed for the next event of a node; what is kept of the node's last event becomes what is kept of it.
 ///

@@ -2,9 +2,9 @@
 use Rattle.std.proofs.Common.{◌≡◌, ◌⊎◌, ℕ, Err, List, None, Ok, Option, Result, Some, arith, inl, inr, refl}
 use Rattle.std.specs.Prelude.{IfErr, IfOk, OnOk}
 use Rattle.clap.specs.Words.{Text}
-use Rattle.hlc_command_fault.specs.declared.command_fault.CommandFault.{CommandFault}
-use Rattle.hlc_command_fault.specs.declared.command_fault.CommandFault.TheVariants as command
-use Rattle.hlc_command_fault.specs.declared.no_events.NoEvents.{NoEvents}
+use Rattle.hlc_command_line.specs.declared.command_fault.CommandFault.{CommandFault}
+use Rattle.hlc_command_line.specs.declared.command_fault.CommandFault.TheVariants as command
+use Rattle.hlc_command_line.specs.declared.no_events.NoEvents.{NoEvents}
 use Rattle.hlc_command_line.specs.declared.line_fault.LineFault.TheVariants as line
 use Rattle.hlc_cli.specs.Ended.{IsEnd}
 use Rattle.hlc_cli.specs.Fault.{IsOfAnswer, command_status, status_at_end, status_of}

@@ -2,7 +2,7 @@
 use Rattle.std.specs.Prelude.{◌≡◌, ℕ, Err, List, Ok, Option, Result}
 use Rattle.std.specs.Bool.{OnTrue}
 use Rattle.clap.specs.Words.{Text}
-use Rattle.hlc_command_fault.specs.declared.no_events.NoEvents.{NoEvents}
+use Rattle.hlc_command_line.specs.declared.no_events.NoEvents.{NoEvents}
 use Rattle.hlc_cli.specs.Fault.{IsOfAnswer, IsToldOf, line_at_end, status_at_end}
 use Rattle.hlc_cli.specs.Program.{ArePerformed, ArePerformedBut, IsNoteAt, IsStop}
 use Rattle.hlc_cli.specs.declared.ended.Ended.{Ended}

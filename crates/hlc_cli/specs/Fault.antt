@@ -1,11 +1,11 @@
 -- What stops the program.
 use Rattle.std.specs.Prelude.{ℕ, ◌++◌, [], Err, IfSome, List, None, Ok, Option, Result, Some, codes, option_map}
 use Rattle.std.specs.Io.KnownBytes.{Appends}
-use Rattle.hlc_command_fault.specs.Fault.{IsOfAnswer as IsAnswered, IsOfInput as IsUnread, fault_text}
-use Rattle.hlc_command_fault.specs.declared.command_fault.CommandFault.{CommandFault}
-use Rattle.hlc_command_fault.specs.NoEvents.{note_text}
-use Rattle.hlc_command_fault.specs.declared.command_fault.CommandFault.TheVariants as command
-use Rattle.hlc_command_fault.specs.declared.no_events.NoEvents.{NoEvents}
+use Rattle.hlc_command_line.specs.CommandFault.{IsOfAnswer as IsAnswered, IsOfInput as IsUnread, fault_text}
+use Rattle.hlc_command_line.specs.declared.command_fault.CommandFault.{CommandFault}
+use Rattle.hlc_command_line.specs.NoEvents.{note_text}
+use Rattle.hlc_command_line.specs.declared.command_fault.CommandFault.TheVariants as command
+use Rattle.hlc_command_line.specs.declared.no_events.NoEvents.{NoEvents}
 use Rattle.hlc_command_line.specs.Fault.{line_fault_text}
 use Rattle.hlc_command_line.specs.declared.line_fault.LineFault.TheVariants as line
 use Rattle.hlc_cli.specs.declared.fault.Fault.{Fault}

@@ -15,8 +15,8 @@ use Rattle.hlc_command_line.specs.declared.line_fault.LineFault.{LineFault}
 use Rattle.hlc_command_line.specs.declared.line_fault.LineFault.TheVariants as fault
 use Rattle.hlc_command_line.specs.declared.line_order.Order.{Order}
 use Rattle.hlc_command_line.specs.declared.line_order.Order.TheVariants as order
-use Rattle.hlc_command_fault.specs.declared.command_fault.CommandFault.{CommandFault}
-use Rattle.hlc_command_fault.specs.declared.no_events.NoEvents.{NoEvents}
+use Rattle.hlc_command_line.specs.declared.command_fault.CommandFault.{CommandFault}
+use Rattle.hlc_command_line.specs.declared.no_events.NoEvents.{NoEvents}
 use Rattle.hlc_script_commands.specs.Answered.{IsScriptAnswered}
 use Rattle.hlc_script_commands.specs.Drawn.{IsDrawnBut, IsDrawnWhole, IsScriptFor}
 use Rattle.hlc_script_commands.specs.NoEvents.{IsNoteOn}
@@ -27,8 +27,8 @@ use Rattle.hlc_log_commands.specs.Following.{HoldFor, HoldsOf}
 use Rattle.hlc_log_commands.specs.LogVectors.{HasVectors}
 use Rattle.hlc_log_commands.specs.Records.{records_in}
 use Rattle.hlc_log_commands.specs.Unopened.{IsUnopened}
-use Rattle.hlc_threads_command.specs.Played.{IsPlayed}
-use Rattle.hlc_watch_command.specs.Watched.{IsWatchNote, IsWatchPassed, IsWatchedBut}
+use Rattle.hlc_script_commands.specs.Played.{IsPlayed}
+use Rattle.hlc_log_commands.specs.Watched.{IsWatchNote, IsWatchPassed, IsWatchedBut}
 use Rattle.hlc_cli.specs.declared.fault.Fault.{Fault}
 use Rattle.hlc_cli.specs.declared.fault.Fault.TheVariants as stop
 

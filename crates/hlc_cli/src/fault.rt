@@ -1,7 +1,6 @@
 ghost use Rattle.std.specs.Prelude.{◌≡◌};
 
-use hlc_command_fault::CommandFault;
-use hlc_command_line::LineFault;
+use hlc_command_line::{CommandFault, LineFault};
 use std::fmt;
 use thiserror::Error;
 

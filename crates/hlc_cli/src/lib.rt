@@ -9,7 +9,7 @@
 //! - `report` writes the line of a fault.
 //!
 //! The commands stand in crates of their own, for callers that have no command line: those of scripts in `hlc_script_commands`, those of
-//! logs in `hlc_log_commands`, and the one of threads in `hlc_threads_command`. What stops one is a `CommandFault`. What a command line
+//! logs in `hlc_log_commands`, and the one of threads in `hlc_script_commands`. What stops one is a `CommandFault`. What a command line
 //! asks for is found by `order`.
 //!
 //! Status 0 says that the arguments were performed, 2 that they were mistaken, 3 that the stamps of a log are broken or over the limit, 4
@@ -38,6 +38,5 @@ mod program;
 
 pub use ended::Ended;
 pub use fault::Fault;
-pub use hlc_command_fault::{CommandFault, NoEvents};
-pub use hlc_command_line::{LineFault, Order, order};
+pub use hlc_command_line::{CommandFault, LineFault, NoEvents, Order, order};
 pub use program::{perform, report, try_perform};

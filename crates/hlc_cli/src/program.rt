@@ -5,7 +5,7 @@ ghost use Rattle.std.specs.Bool.{OnTrue};
 ghost use Rattle.std.specs.Io.KnownBytes.{Appends};
 ghost use Rattle.clap.specs.Values.{kind_of};
 ghost use Rattle.clap.specs.Walk.{texts};
-ghost use Rattle.hlc_command_fault.specs.Fault.{IsOfAnswer as IsAnswered, IsOfInput as IsUnread};
+ghost use Rattle.hlc_command_line.specs.CommandFault.{IsOfAnswer as IsAnswered, IsOfInput as IsUnread};
 ghost use Rattle.hlc_cli.specs.Ended.{Ends};
 ghost use Rattle.hlc_cli.specs.Fault.{IsOfAnswer, IsOfInput, IsToldOf, command_status, line_at_end, line_of, line_with, note_line, status_at_end, status_of};
 ghost use Rattle.hlc_cli.specs.Program.{AreMistaken, ArePerformed, ArePerformedBut, GiveOrder, HaveNote, IsDone, IsDoneBut, IsNoteAt, IsNoteFor, IsStop, IsText, IsTextAsked, MayHaveWritten, MayWrite, ReadsFirst, unnoted as unnoted_end};
@@ -13,14 +13,13 @@ ghost use Rattle.hlc_cli.specs.Program.{AreMistaken, ArePerformed, ArePerformedB
 use crate::ended::Ended;
 use crate::fault::Fault;
 use clap::error::ErrorKind;
-use hlc_command_fault::{CommandFault, NoEvents};
-use hlc_command_line::{Hint, LineFault, Order, hint_for, order, sign_hint};
+use hlc_command_line::{
+    CommandFault, Hint, LineFault, NoEvents, Order, hint_for, order, sign_hint,
+};
 use hlc_csv::RecordsFault;
-use hlc_log_commands::{NameKey, audit_input, draw_log, vectors_of_log};
-use hlc_script_commands::{draw_script, print_storm, run_script, trace_script};
-use hlc_threads_command::play;
+use hlc_log_commands::{NameKey, audit_input, draw_log, vectors_of_log, watch_log};
+use hlc_script_commands::{draw_script, play, print_storm, run_script, trace_script};
 use hlc_trace::judge_run;
-use hlc_watch_command::watch_log;
 use std::fmt::Display;
 use std::hash::RandomState;
 use std::io;

@@ -3,3 +3,4 @@ pub mod AskedFacts
 pub mod LineFacts
 mod JsonFacts
 mod UnitFacts
+pub mod Faults

@@ -12,3 +12,5 @@ pub mod PartOptions
 pub mod Line
 pub mod ResentOption
 pub mod Rules
+pub mod CommandFault
+pub mod NoEvents

@@ -11,6 +11,9 @@
 //! - `hint_for` says what else the user is told of arguments that are refused: a range of numbers, or where a log is read from.
 //! - `add_fields`, `add_kinds` and `questions` read the texts of options that may be given more than once, also for a caller who has them from elsewhere.
 //!
+//! - `CommandFault` is why a command stopped, whichever crate carries it out; `NoEvents` is the note on a command that didn't stop, and had no
+//!   event to tell of. `hlc_cli` turns a fault into an exit status.
+//!
 //! It carries nothing out and prints nothing: `hlc_cli` hands the order to the crates of commands.
 //!
 //! A first caller, proved in `hlc_program_examples`: the settings that a command line asks for.
@@ -33,6 +36,7 @@
 
 mod asked;
 mod cluster_options;
+mod command_fault;
 mod drawn_part;
 mod fault_option;
 mod help;
@@ -46,6 +50,7 @@ mod line_order;
 mod log_line;
 mod log_options;
 mod log_part;
+mod no_events;
 mod number_signs;
 mod option_rule;
 mod option_value;
@@ -56,6 +61,7 @@ mod unit_options;
 mod watch_options;
 
 pub use asked::questions;
+pub use command_fault::CommandFault;
 pub use drawn_part::{DrawnPart, DrawnRows, USUAL_ROWS};
 pub use hint::{Hint, hint_for, sign_hint};
 pub use json_options::{add_fields, add_kinds};
@@ -64,3 +70,4 @@ pub use line_fault::{LineFault, PartMistake, RecordsMistake};
 pub use line_order::{
     AskedBeside, AuditOptions, DrawLogOptions, LogLine, Order, OutputForm, USUAL_KEPT, WatchOptions,
 };
+pub use no_events::NoEvents;

@@ -4,12 +4,12 @@ use Rattle.std.specs.Prelude.{◌==◌, is_none, nat_le, slice_get}
 use Rattle.hlc_arena.specs.ClockRule.{MeetsClockRule}
 use Rattle.hlc_arena.specs.History.{Delivered, Event, StampedEvent}
 use Rattle.hlc_core.specs.declared.accepted.Accepted.{Accepted}
-use Rattle.hlc_request.specs.declared.refusal.Refusal.{Refusal}
-use Rattle.hlc_request.specs.declared.refusal.Refusal.TheVariants.{NoEntry, NoMessage, TooFarAhead}
+use Rattle.hlc_core.specs.declared.refusal.Refusal.{Refusal}
+use Rattle.hlc_core.specs.declared.refusal.Refusal.TheVariants.{NoEntry, NoMessage, TooFarAhead}
 use Rattle.hlc_core.specs.declared.effect.Effect.{Effect}
 use Rattle.hlc_core.specs.Effect.{IsEffectOf, effect_event, effect_live}
 use Rattle.hlc_core.specs.Limit.{drift_if_next, exceeds}
-use Rattle.hlc_request.specs.Request.{Request, ToDeliver, ToPull, ToSend, ToSync}
+use Rattle.hlc_core.specs.Request.{Request, ToDeliver, ToPull, ToSend, ToSync}
 use Rattle.hlc_core.specs.State.{State, is_live, sends_to}
 use Rattle.hlc_core.specs.Step.{Accepts, AddsEvent, IsAdded, IsAnswered, PassesCommon, common_refusals, drift_refusals, entries_in, entry_in, event_for, event_with, first_refusal, is_bad_key, is_bad_value, live_after, own_refusals, refusal_of, refused_or, state_with, live_without, pulled_kind, target_refusals, without_first}
 

@@ -1,10 +1,10 @@
 -- What comes of calls in turn is steps, and what they leave keeps the promise.
 use Rattle.std.proofs.Common.{◌≡◌, ◌∙◌, ℕ, Bool, true, false, List, [], ◌∷◌, ◌++◌, inl, inr, refl, sym, ap, subst, Ok, Err}
 use Rattle.std.specs.Prelude.{cond}
-use Rattle.hlc_request.specs.declared.refusal.Refusal.{Refusal}
+use Rattle.hlc_core.specs.declared.refusal.Refusal.{Refusal}
 use Rattle.hlc_core.specs.Asked.{Asked, StepsAlong, ToAct}
 use Rattle.hlc_core.specs.Calls.{ActCall, Call, CallsAreSteps, CallsKeepThePromise, HasOutcome, LoseCall, LossesAreSteps, NewIsFirst, asked_by_calls, asked_by_call, is_out_of_memory}
-use Rattle.hlc_request.specs.Request.{Request}
+use Rattle.hlc_core.specs.Request.{Request}
 use Rattle.hlc_core.specs.State.{State, new_state}
 use Rattle.hlc_core.specs.Step.{IsAnswered}
 use Rattle.hlc_core.proofs.AskedSteps.{answers_step, new_is_sound, stays_sound}

@@ -12,8 +12,8 @@ use Rattle.hlc_arena.proofs.Histories.{length_skeleton, pair_at_place}
 use Rattle.hlc_causality.proofs.LeastPairs.{counter_is_at_most_place}
 use Rattle.hlc_arena.proofs.Places.{stamped_at-last}
 use Rattle.hlc_core.specs.declared.accepted.Accepted.{Accepted}
-use Rattle.hlc_request.specs.declared.refusal.Refusal.{Refusal}
-use Rattle.hlc_request.specs.Request.{Request}
+use Rattle.hlc_core.specs.declared.refusal.Refusal.{Refusal}
+use Rattle.hlc_core.specs.Request.{Request}
 use Rattle.hlc_core.specs.Sound.{IsSound}
 use Rattle.hlc_core.specs.State.{State}
 use Rattle.hlc_core.specs.Step.{IsAnswered, event_for, live_after, refusal_of, state_with}

@@ -8,8 +8,8 @@ use Rattle.std.proofs.lemmas.Bool.Decides.{nat_tests}
 use Rattle.hlc_stamp.specs.declared.limits.TheConstants.{MAX_READING}
 use Rattle.hlc_arena.specs.Arena.{IsKey, IsValue}
 use Rattle.hlc_arena.specs.History.{event_at, target_of}
-use Rattle.hlc_request.specs.declared.refusal.Refusal.{Refusal}
-use Rattle.hlc_request.specs.declared.refusal.Refusal.TheVariants.{Full, KeySize, NoNode, NoTarget, ReadingTooLarge, SelfSend, ValueSize, ZeroReading}
+use Rattle.hlc_core.specs.declared.refusal.Refusal.{Refusal}
+use Rattle.hlc_core.specs.declared.refusal.Refusal.TheVariants.{Full, KeySize, NoNode, NoTarget, ReadingTooLarge, SelfSend, ValueSize, ZeroReading}
 use Rattle.hlc_core.specs.State.{IsLawfulState, State, is_live, is_target, sends_to}
 use Rattle.hlc_core.specs.Step.{common_refusals, first_refusal, is_bad_key, is_bad_value, refused_or, size_refusals, target_refusals}
 

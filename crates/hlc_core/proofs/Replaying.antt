@@ -21,11 +21,11 @@ use Rattle.hlc_arena.proofs.Following.{well_formed_names_fit}
 use Rattle.hlc_arena.proofs.Histories.{no_stamped_event}
 use Rattle.hlc_arena.proofs.Places.{stamped_at-before, stamped_at-last}
 use Rattle.hlc_core.specs.Asked.{AddsUnless, Asked, StepsAlong, StepsTo, with_stamp}
-use Rattle.hlc_request.specs.declared.refusal.Refusal.{Refusal}
+use Rattle.hlc_core.specs.declared.refusal.Refusal.{Refusal}
 use Rattle.hlc_core.specs.Lawful.{CarriesEntries, IsLawful, IsLawfulNext, IsRequested}
 use Rattle.hlc_core.specs.Limit.{AreWithinLimit, IsWithinLimit, drift_if_next, exceeds}
 use Rattle.hlc_core.specs.Replay.{AllAccepted, ClustersReplay, IsReached, LawfulIsReached, ReplayGivesEqualHistory, asked_again, event_again, request_for}
-use Rattle.hlc_request.specs.Request.{ToSend}
+use Rattle.hlc_core.specs.Request.{ToSend}
 use Rattle.hlc_core.specs.State.{State, is_live, is_target, new_refusal, new_state}
 use Rattle.hlc_core.specs.Step.{PassesCommon, event_for, event_with, first_refusal, is_bad_key, is_bad_value, kind_for, live_after, own_refusals, refusal_of, state_with}
 use Rattle.hlc_core.proofs.Answering.{let_through, may_be_delivered, may_be_sent, may_be_synced, target_passes}

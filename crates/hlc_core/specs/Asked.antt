@@ -3,8 +3,8 @@ use Rattle.std.specs.Prelude.{◌≡◌, ℕ, List, [], ◌∷◌, Option, Some,
 use Rattle.hlc_stamp.specs.Order.{Pair}
 use Rattle.hlc_arena.specs.ClockRule.{MeetsClockRule}
 use Rattle.hlc_arena.specs.History.{Event, StampedEvent}
-use Rattle.hlc_request.specs.declared.refusal.Refusal.{Refusal}
-use Rattle.hlc_request.specs.Request.{Request}
+use Rattle.hlc_core.specs.declared.refusal.Refusal.{Refusal}
+use Rattle.hlc_core.specs.Request.{Request}
 use Rattle.hlc_core.specs.State.{State, is_live}
 use Rattle.hlc_core.specs.Step.{event_for, live_after, refusal_of, state_with, with_lost}
 

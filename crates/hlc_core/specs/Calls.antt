@@ -2,11 +2,11 @@
 use Rattle.std.specs.Prelude.{◌≡◌, ℕ, Bool, true, false, List, [], ◌∷◌, flat_map, Option, None, Result, Ok, Err, if◌then◌else◌}
 use Rattle.hlc_core.specs.declared.accepted.Accepted.{Accepted}
 use Rattle.hlc_pool.specs.declared.no_message.NoMessage.{NoMessage}
-use Rattle.hlc_request.specs.declared.refusal.Refusal.{Refusal}
-use Rattle.hlc_request.specs.declared.refusal.Refusal.TheVariants.{Memory}
+use Rattle.hlc_core.specs.declared.refusal.Refusal.{Refusal}
+use Rattle.hlc_core.specs.declared.refusal.Refusal.TheVariants.{Memory}
 use Rattle.hlc_core.specs.Asked.{Asked, StepsAlong, StepsTo, ToAct, ToLose}
 use Rattle.hlc_core.specs.Laws.{KeepsThePromise}
-use Rattle.hlc_request.specs.Request.{Request}
+use Rattle.hlc_core.specs.Request.{Request}
 use Rattle.hlc_core.specs.Sound.{IsSound}
 use Rattle.hlc_core.specs.State.{MakesCluster, State, new_refusal, new_state}
 use Rattle.hlc_core.specs.Step.{EndsMessage, IsAnswered}

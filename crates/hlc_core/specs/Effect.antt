@@ -5,10 +5,10 @@ use Rattle.hlc_table.specs.Rows.{Row}
 use Rattle.hlc_core.specs.declared.effect.Effect.{Effect}
 use Rattle.hlc_table.specs.Rows.{Row}
 use Rattle.hlc_core.specs.declared.effect.Effect.TheVariants.{Deliver, Erase, Pull, Send, Sync, Write}
-use Rattle.hlc_request.specs.declared.refusal.Refusal.{Refusal}
+use Rattle.hlc_core.specs.declared.refusal.Refusal.{Refusal}
 use Rattle.hlc_core.specs.Lawful.{IsLawfulNext}
 use Rattle.hlc_core.specs.Limit.{IsWithinLimit, drift_if_next}
-use Rattle.hlc_request.specs.Request.{Request}
+use Rattle.hlc_core.specs.Request.{Request}
 use Rattle.hlc_core.specs.State.{State, is_live}
 use Rattle.hlc_core.specs.Step.{entries_in, event_with, first_refusal, kind_for, live_after, live_with, live_without, own_refusals}
 

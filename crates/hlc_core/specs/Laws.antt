@@ -7,10 +7,10 @@ use Rattle.hlc_arena.specs.History.{causality_of, stamps_of}
 use Rattle.hlc_arena.specs.Known.{everywhere}
 use Rattle.hlc_table.specs.Rows.{Row, entry_at}
 use Rattle.hlc_core.specs.declared.accepted.Accepted.{Accepted}
-use Rattle.hlc_request.specs.declared.refusal.Refusal.{Refusal}
-use Rattle.hlc_request.specs.declared.refusal.Refusal.TheVariants.{Memory}
+use Rattle.hlc_core.specs.declared.refusal.Refusal.{Refusal}
+use Rattle.hlc_core.specs.declared.refusal.Refusal.TheVariants.{Memory}
 use Rattle.hlc_core.specs.Asked.{Asked, StepsAlong, StepsTo, ToAct}
-use Rattle.hlc_request.specs.Request.{Request}
+use Rattle.hlc_core.specs.Request.{Request}
 use Rattle.hlc_core.specs.Sound.{IsSound}
 use Rattle.hlc_core.specs.State.{State, new_refusal, new_state}
 use Rattle.hlc_core.specs.Step.{IsAnswered}

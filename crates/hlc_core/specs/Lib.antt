@@ -10,3 +10,6 @@ pub mod Asked
 pub mod Laws
 pub mod Calls
 pub mod Replay
+pub mod Request
+pub mod Timed
+pub mod Refusals

@@ -3,8 +3,8 @@ use Rattle.std.specs.Prelude.{◌≡◌, ◌==◌, ◌⊎◌, ℕ, ◌<◌, ◌|
 use Rattle.std.specs.List.{list_any}
 use Rattle.hlc_stamp.specs.declared.limits.TheConstants.{MAX_CAPACITY, MAX_NODES, MIN_CAPACITY, MIN_NODES}
 use Rattle.hlc_arena.specs.History.{target_of, History, StampedEvent, event_at}
-use Rattle.hlc_request.specs.declared.cluster_fault.ClusterFault.{ClusterFault}
-use Rattle.hlc_request.specs.declared.cluster_fault.ClusterFault.TheVariants.{BadCapacity, BadNodes, Memory}
+use Rattle.hlc_core.specs.declared.cluster_fault.ClusterFault.{ClusterFault}
+use Rattle.hlc_core.specs.declared.cluster_fault.ClusterFault.TheVariants.{BadCapacity, BadNodes, Memory}
 use Rattle.hlc_core.specs.Lawful.{IsLawful}
 
 -- the history; the live messages by the places of their sends, in sending order, as every other send has ended; and how far an event may be

@@ -8,7 +8,7 @@ ghost use Rattle.hlc_core.specs.Effect.{EndsLive, HasEffect, MayBeAdded, effect_
 ghost use Rattle.hlc_core.specs.Fields.{HasRoomToPost};
 ghost use Rattle.hlc_core.specs.Lawful.{IsLawful};
 ghost use Rattle.hlc_core.specs.Limit.{AreWithinLimit, drift_if_next, exceeds};
-ghost use Rattle.hlc_request.specs.Request.{ToDeliver, ToErase, ToPull, ToSend, ToSync, ToWrite, request_of, request_of_ref};
+ghost use Rattle.hlc_core.specs.Request.{ToDeliver, ToErase, ToPull, ToSend, ToSync, ToWrite, request_of, request_of_ref};
 ghost use Rattle.hlc_core.specs.Sound.{IsSound};
 ghost use Rattle.hlc_core.specs.State.{MakesCluster, State, inbox_of, new_state};
 ghost use Rattle.hlc_core.specs.Step.{AddsEvent, EndsMessage, IsAnswered, common_refusals, entry_in, event_with, first_refusal, is_bad_key, live_with, size_refusals, target_refusals};
@@ -18,10 +18,9 @@ use crate::accepted::Accepted;
 use crate::clock::{next_drift, next_stamp};
 use crate::effect::Effect;
 use crate::node_table::NodeTable;
-use crate::outgoing;
+use crate::{Action, ActionRef, ClusterFault, Refusal, outgoing};
 use hlc_arena::{Arena, Kind, NextKind};
 use hlc_pool::{Inbox, NoMessage, Pool};
-use hlc_request::{Action, ActionRef, ClusterFault, Refusal};
 use hlc_stamp::{
     EventId, MAX_CAPACITY, MAX_KEY_LEN, MAX_NODES, MAX_READING, MAX_VALUE_LEN, MIN_CAPACITY,
     MIN_NODES, NodeId, Settings,

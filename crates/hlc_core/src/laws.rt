@@ -32,7 +32,7 @@ pub fn tables_converge()
 ///
 /// Every lawful schedule is among these: `replay_gives_equal_history`.
 ///
-/// `hlc_audit::chain` answers with such a chain, the event's own (`stamps_are_explained`), and `Cluster::table` with the very
+/// `hlc_explain::chain` answers with such a chain, the event's own (`stamps_are_explained`), and `Cluster::table` with the very
 /// table.
 pub fn every_schedule()
     ensures { EveryScheduleKeepsThePromise }

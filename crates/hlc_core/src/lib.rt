@@ -8,6 +8,9 @@
 //! - `Cluster::new` makes a cluster; `with_limit` makes one whose clocks can't be pulled ahead by more than a limit.
 //! - `ask` and `act` ask a node. They answer with the new event and its stamp, or with the `Refusal`.
 //! - `lose` drops a message.
+//! - An `Action` is what a node can be asked to do, as plain data that owns its key and value, and an `ActionRef` borrows them. So it can be read
+//!   from a script, kept in a log, drawn from a seed, or asked again later. A `Step` is an action with the reading at which it is asked.
+//! - `Refusal` says why a request was refused, in the order in which the conditions are tested; `ClusterFault` why there is no cluster.
 //! - `history`, `table` and `inbox` show what there is.
 //! - `laws` has the theorems about all of this; `laws::every_schedule` is the one to read first.
 //!
@@ -32,17 +35,35 @@
 //!     Ok(cluster)
 //! }
 //! ```
+//!
+//! Another: a step for a list that a node works through later.
+//!
+//! ```rust
+//! pub fn plan_step(alloc: Global, reading: u64, action: &Action) -> Result<Step, AllocError>
+//!     ensures { IfOk result (λ step. timed_request_of step ≡ record { reading = reading; request = request_of action.now }) }
+//! {
+//!     let action = action.copy(alloc)?;
+//!     Ok(Step { reading, action })
+//! }
+//! ```
 #![tactic(auto)]
 
 mod accepted;
+mod action;
 mod clock;
 mod cluster;
+mod cluster_fault;
 mod effect;
 pub mod laws;
 mod node_table;
 mod outgoing;
+mod refusal;
+mod step;
 
 pub use accepted::Accepted;
+pub use action::{Action, ActionRef};
 pub use cluster::Cluster;
+pub use cluster_fault::ClusterFault;
 pub use hlc_pool::{Inbox, NoMessage};
-pub use hlc_request::{Action, ActionRef, ClusterFault, Refusal, Step};
+pub use refusal::Refusal;
+pub use step::Step;

@@ -1,4 +1,4 @@
-//! First callers of the crates up to `hlc_core` and `hlc_audit`, each with a contract that says what it shows. The docs of those
+//! First callers of the crates up to `hlc_core` and `hlc_explain`, each with a contract that says what it shows. The docs of those
 //! crates show them.
 #![tactic(auto)]
 

@@ -1,10 +1,10 @@
-// A caller of `hlc_request`.
+// A caller of `hlc_core`.
 
 ghost use Rattle.std.specs.Prelude.{◌≡◌, IfOk};
-ghost use Rattle.hlc_request.specs.Request.{request_of};
-ghost use Rattle.hlc_request.specs.Timed.{timed_request_of};
+ghost use Rattle.hlc_core.specs.Request.{request_of};
+ghost use Rattle.hlc_core.specs.Timed.{timed_request_of};
 
-use hlc_request::{Action, Step};
+use hlc_core::{Action, Step};
 use std::alloc::{AllocError, Global};
 
 /// A step for a node's list: it asks the same as an action, of which it has a copy, when the clock reads `reading`.

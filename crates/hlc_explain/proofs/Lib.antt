@@ -21,3 +21,7 @@ pub mod NamedLinks
 pub mod PathLengths
 pub mod Raising
 pub mod LeastWithout
+pub mod Asked
+pub mod Found
+pub mod Batches
+pub mod VectorLines

@@ -12,3 +12,8 @@ pub mod Words
 pub mod Vectors
 pub mod Counts
 pub mod VectorLaws
+pub mod EventQuestion
+pub mod Answer
+pub mod Labelled
+pub mod Plain
+pub mod VectorLine

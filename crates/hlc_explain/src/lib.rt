@@ -12,6 +12,12 @@
 //! - `vectors`: of each event, how many events of each node are the event itself or happened before it (Fidge 1988, Mattern
 //!   1989). They show causality without a look at messages; tools that draw logs read them. They give no stamps and read none.
 //!
+//! - `answer_to` answers an `EventQuestion`, one of these questions about events by its word: the same for a history of the store, which
+//!   tells events by their numbers, and for a log, which tells them by the lines of its records.
+//! - `put_vector_line` writes the line of an event's node and vector, `NODE {"NODE":COUNT, "NODE":COUNT}`, as ShiViz and other tools read it.
+//!   `NodeTexts` says how nodes are spelled there, `plain` takes a label only if its bytes are printable ASCII, and `spill` and `hand_out` hand
+//!   text to a writer in batches. Whoever has a history or a log writes its rows.
+//!
 //! `chain`, `drift`, `tainted` and `explain_all` require that the stamps are the least; the others don't. `laws` says what the answers mean.
 //!
 //! A first caller, proved in `hlc_examples`: why is the stamp of this event so high?
@@ -61,31 +67,45 @@
 //! ```
 #![tactic(auto)]
 
+mod answer;
+mod answering;
 mod answers;
+mod batch;
 mod causality;
 mod chain_check;
 mod chains;
 mod counting;
 mod drifts;
+mod event_question;
 mod frontier;
 mod influence;
 mod kept_vectors;
 mod known_origins;
 pub mod laws;
 mod marks;
+mod node_texts;
 mod paths;
+mod plain_text;
 mod summaries;
 mod taints;
+mod vector_line;
 
+pub use answer::Answer;
+pub use answering::answer_to;
 pub use answers::{Drift, Missing, Relation, Summary};
+pub use batch::{hand_out, spill};
 pub use causality::{relation, relation_with_ends};
 pub use chain_check::check_chain;
 pub use chains::chain;
 pub use counting::vectors;
 pub use drifts::drift;
+pub use event_question::{EventQuestion, events_asked, question_word};
 pub use hlc_verdict::AuditFault;
 pub use influence::influenced;
 pub use kept_vectors::Vectors;
+pub use node_texts::NodeTexts;
 pub use paths::path;
+pub use plain_text::plain;
 pub use summaries::explain_all;
 pub use taints::tainted;
+pub use vector_line::put_vector_line;

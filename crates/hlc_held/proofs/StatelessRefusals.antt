@@ -3,10 +3,10 @@ use Rattle.std.proofs.Common.{◌≡◌, ◌∙◌, ◌⊎◌, ℕ, ◌<◌, Boo
 use Rattle.std.specs.Prelude.{◌==◌, IsSome, is_none, nat_le, nat_lt, not}
 use Rattle.std.proofs.lemmas.Bool.Decides.{nat_tests}
 use Rattle.hlc_stamp.specs.declared.limits.TheConstants.{MAX_READING}
-use Rattle.hlc_request.specs.declared.refusal.Refusal.{Refusal}
-use Rattle.hlc_request.specs.declared.refusal.Refusal.TheVariants.{Full, NoEntry, NoMessage, NoNode, ReadingTooLarge, TooFarAhead, WrongNode, ZeroReading}
+use Rattle.hlc_core.specs.declared.refusal.Refusal.{Refusal}
+use Rattle.hlc_core.specs.declared.refusal.Refusal.TheVariants.{Full, NoEntry, NoMessage, NoNode, ReadingTooLarge, TooFarAhead, WrongNode, ZeroReading}
 use Rattle.hlc_core.specs.Limit.{drift_if_next, exceeds}
-use Rattle.hlc_request.specs.Request.{Request, ToDeliver, ToErase, ToPull, ToSend, ToSync, ToWrite}
+use Rattle.hlc_core.specs.Request.{Request, ToDeliver, ToErase, ToPull, ToSend, ToSync, ToWrite}
 use Rattle.hlc_core.specs.State.{State, is_live, sends_to}
 use Rattle.hlc_core.specs.declared.accepted.Accepted.{Accepted}
 use Rattle.hlc_core.specs.Step.{Accepts, Refuses, drift_refusals, entries_in, entry_and_message_refusals, entry_in, event_for, first_refusal, own_refusals, refusal_of, refused_or, size_and_target_refusals}

@@ -1,7 +1,7 @@
 -- What an accepted request leaves of a state.
 use Rattle.std.proofs.Common.{◌≡◌, ℕ, ◌+◌, [], ◌∷◌, length, length-append, refl, subst, sym}
 use Rattle.hlc_core.specs.declared.accepted.Accepted.{Accepted}
-use Rattle.hlc_request.specs.Request.{Request}
+use Rattle.hlc_core.specs.Request.{Request}
 use Rattle.hlc_core.specs.State.{State}
 use Rattle.hlc_core.specs.Step.{Accepts, event_for, live_after, refusal_of, state_with}
 use Rattle.hlc_core.proofs.Passed.{made_is}

@@ -5,7 +5,7 @@ use Rattle.hlc_stamp.specs.Order.{Pair}
 use Rattle.hlc_arena.specs.EntryLaws.{IsWriteOf}
 use Rattle.hlc_arena.specs.History.{Delivered, Erased, EventKind, Sent, StampedEvent, Synced, Written, event_at, stamp_at}
 use Rattle.hlc_causality.specs.Places.{places_below}
-use Rattle.hlc_request.specs.Request.{Request, ToDeliver, ToErase, ToPull, ToSend, ToSync, ToWrite}
+use Rattle.hlc_core.specs.Request.{Request, ToDeliver, ToErase, ToPull, ToSend, ToSync, ToWrite}
 use Rattle.hlc_held.specs.LogEntry.{DidAct, DidLook, LogEntry, events_named}
 use Rattle.hlc_held.specs.Sights.{sight_of_key}
 

@@ -4,7 +4,7 @@ use Rattle.std.specs.List.{filter_map}
 use Rattle.std.specs.Option.{option_map}
 use Rattle.hlc_stamp.specs.Order.{Pair}
 use Rattle.hlc_table.specs.declared.entry.Entry.{Entry}
-use Rattle.hlc_request.specs.Request.{Request, request_of}
+use Rattle.hlc_core.specs.Request.{Request, request_of}
 use Rattle.hlc_held.specs.declared.logged.Logged.{Logged}
 use Rattle.hlc_held.specs.declared.logged.Logged.TheVariants.{Acted, Looked}
 use Rattle.hlc_held.specs.declared.seen.Seen.{Seen}

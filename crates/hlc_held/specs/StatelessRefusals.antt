@@ -1,9 +1,9 @@
 -- What can be said of a refusal without the state.
 use Rattle.std.specs.Prelude.{◌≡◌, ◌==◌, ◌⊎◌, ◌++◌, ℕ, Bool, IsSome, List, None, Option, Some, [], ◌∷◌, nat_lt}
 use Rattle.hlc_stamp.specs.declared.limits.TheConstants.{MAX_READING}
-use Rattle.hlc_request.specs.declared.refusal.Refusal.{Refusal}
-use Rattle.hlc_request.specs.declared.refusal.Refusal.TheVariants.{Full, Memory, NoEntry, NoMessage, ReadingTooLarge, TooFarAhead, WrongNode, ZeroReading}
-use Rattle.hlc_request.specs.Request.{Request, ToDeliver, ToSend, ToSync}
+use Rattle.hlc_core.specs.declared.refusal.Refusal.{Refusal}
+use Rattle.hlc_core.specs.declared.refusal.Refusal.TheVariants.{Full, Memory, NoEntry, NoMessage, ReadingTooLarge, TooFarAhead, WrongNode, ZeroReading}
+use Rattle.hlc_core.specs.Request.{Request, ToDeliver, ToSend, ToSync}
 use Rattle.hlc_core.specs.Step.{first_refusal, size_and_target_refusals}
 
 -- the conditions on a reading, each with its refusal, in order

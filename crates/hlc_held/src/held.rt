@@ -1,7 +1,7 @@
 ghost use Rattle.std.specs.Prelude.{◌≡◌, ◌⊎◌, ℕ, ◌+◌, ◌<◌, [], ◌∷◌, ◌++◌, true, false, IfErr, IfOk, None, OnErr, OnOk, Some, length, option_map, sum_by, vec_len};
 ghost use Rattle.hlc_arena.specs.Arena.{history_of};
 ghost use Rattle.hlc_arena.specs.Known.{everywhere};
-ghost use Rattle.hlc_request.specs.Request.{request_of, request_of_ref};
+ghost use Rattle.hlc_core.specs.Request.{request_of, request_of_ref};
 ghost use Rattle.hlc_core.specs.Sound.{IsSound};
 ghost use Rattle.hlc_core.specs.State.{is_live};
 ghost use Rattle.hlc_core.specs.Step.{Accepts, Refuses, first_refusal, refusal_of, with_lost};
@@ -17,8 +17,7 @@ use crate::logs_by_node::logs_of;
 use crate::seat::{Seat, seats_for};
 use crate::seen::Seen;
 use hlc_arena::Arena;
-use hlc_core::{Accepted, Cluster, NoMessage};
-use hlc_request::{Action, ActionRef, Refusal};
+use hlc_core::{Accepted, Action, ActionRef, Cluster, NoMessage, Refusal};
 use hlc_stamp::{EventId, NodeId};
 use std::alloc::{AllocError, Global};
 use std::marker::{Model, PhantomData};

@@ -1,5 +1,5 @@
 use crate::seen::Seen;
-use hlc_request::Action;
+use hlc_core::Action;
 use hlc_stamp::{EventId, Stamp};
 
 /// What a node was asked and what was answered, as its log keeps it.

@@ -16,10 +16,10 @@ use Rattle.hlc_causality.specs.Places.{places_below}
 use Rattle.hlc_causality.proofs.PlacesBelow.{length-places_below, place_at}
 use Rattle.hlc_arena.specs.History.{Delivered, Erased, EventKind, Sent, StampedEvent, Synced, Written, causality_of, stamped_at}
 use Rattle.hlc_arena.proofs.Histories.{length_skeleton}
-use Rattle.hlc_vector_text.specs.Plain.{if_plain, is_hidden}
+use Rattle.hlc_explain.specs.Plain.{if_plain, is_hidden}
 use Rattle.hlc_csv.specs.Rows.{Fields, row_setup, text_of_row}
 use Rattle.hlc_csv.proofs.DecimalFacts.{all_digits-decimal}
-use Rattle.hlc_vector_text.specs.VectorLine.{count_text, count_texts, joined, vector_line}
+use Rattle.hlc_explain.specs.VectorLine.{count_text, count_texts, joined, vector_line}
 use Rattle.hlc_explain.specs.Vectors.{is_counted, vector_at, vector_of}
 use Rattle.hlc_history_log.specs.Label.{label_of}
 use Rattle.hlc_history_log.specs.Laws.{HasNoLineFeed, TwoLinesEach}

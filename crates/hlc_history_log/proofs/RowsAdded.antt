@@ -4,7 +4,7 @@ use Rattle.std.specs.Prelude.{decimal, option_map}
 use Rattle.std.proofs.lemmas.List.{map-append}
 use Rattle.std.specs.Io.KnownBytes.{Appends, append_known}
 use Rattle.hlc_causality.specs.Places.{places_below}
-use Rattle.hlc_vector_text.specs.Labelled.{and_label}
+use Rattle.hlc_explain.specs.Labelled.{and_label}
 use Rattle.hlc_csv.specs.Rows.{AddsText, Fields, number_row, text_of, text_of_row}
 use Rattle.hlc_csv.proofs.RowFacts.{adds_text-more, text_of-append, text_of-one}
 

@@ -6,8 +6,8 @@ use Rattle.hlc_explain.specs.Vectors.{vector_of}
 use Rattle.hlc_history_log.specs.Label.{label_of}
 use Rattle.hlc_history_log.specs.LogRows.{row_with}
 use Rattle.hlc_history_log.specs.VectorText.{event_text}
-use Rattle.hlc_vector_text.specs.Plain.{if_plain}
-use Rattle.hlc_vector_text.specs.VectorLine.{vector_line}
+use Rattle.hlc_explain.specs.Plain.{if_plain}
+use Rattle.hlc_explain.specs.VectorLine.{vector_line}
 
 pub event_is_put : (nodes : ℕ) (events : List StampedEvent) (e : ℕ) (x : StampedEvent) (vector : List ℕ) (label : Option (List ℕ))
     (base mid new : List ℕ) → x ≡ stamped_at events e → vector ≡ vector_of (causality_of events) nodes e → label ≡ if_plain (label_of events (event_at events e).kind)

@@ -2,7 +2,7 @@
 use Rattle.std.specs.Prelude.{ℕ, List, [], ◌∷◌, Option, Some, None, codes, decimal, length, map}
 use Rattle.hlc_causality.specs.Places.{places_below}
 use Rattle.hlc_arena.specs.History.{Delivered, Erased, EventKind, Sent, StampedEvent, Synced, Written, stamped_at}
-use Rattle.hlc_vector_text.specs.Labelled.{and_label}
+use Rattle.hlc_explain.specs.Labelled.{and_label}
 use Rattle.hlc_csv.specs.Rows.{Fields, text_of}
 use Rattle.hlc_history_log.specs.Label.{label_of}
 

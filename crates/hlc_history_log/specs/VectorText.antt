@@ -2,9 +2,9 @@
 use Rattle.std.specs.Prelude.{ℕ, List, ◌++◌, decimal, flat_map, length}
 use Rattle.hlc_causality.specs.Places.{places_below}
 use Rattle.hlc_arena.specs.History.{StampedEvent, causality_of, stamped_at}
-use Rattle.hlc_vector_text.specs.Plain.{if_plain}
+use Rattle.hlc_explain.specs.Plain.{if_plain}
 use Rattle.hlc_csv.specs.Rows.{Fields, text_of_row}
-use Rattle.hlc_vector_text.specs.VectorLine.{vector_line}
+use Rattle.hlc_explain.specs.VectorLine.{vector_line}
 use Rattle.hlc_explain.specs.Vectors.{vector_of}
 use Rattle.hlc_history_log.specs.Label.{label_of}
 use Rattle.hlc_history_log.specs.LogRows.{row_with}

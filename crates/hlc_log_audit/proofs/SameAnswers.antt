@@ -35,9 +35,9 @@ use Rattle.hlc_explain.specs.declared.answers.Drift.{Drift}
 use Rattle.hlc_explain.specs.declared.answers.Missing.TheVariants as missing
 use Rattle.hlc_explain.specs.declared.answers.Relation.{Relation}
 use Rattle.hlc_explain.proofs.Findings.{influenced_are_found, relation_is, relations_are_found, rising_is_unique}
-use Rattle.hlc_answers.specs.Answer.{Answer, answer_row, last_field, path_answer, set_answer, way_answer, word_answer}
-use Rattle.hlc_answers.specs.EventQuestion as about
-use Rattle.hlc_answers.specs.EventQuestion.{EventQuestion}
+use Rattle.hlc_explain.specs.Answer.{Answer, answer_row, last_field, path_answer, set_answer, way_answer, word_answer}
+use Rattle.hlc_explain.specs.EventQuestion as about
+use Rattle.hlc_explain.specs.EventQuestion.{EventQuestion}
 use Rattle.hlc_verdict.specs.declared.verdict.Verdict.TheVariants as verdict
 use Rattle.hlc_causes.specs.declared.answers.Finding.{Finding}
 use Rattle.hlc_causes.specs.declared.answers.Finding.TheVariants.{Judged, RolledOver}
@@ -74,8 +74,8 @@ use Rattle.hlc_log_audit.specs.Lines.{HasNumbers, IsOnLine, position_on}
 use Rattle.hlc_log_audit.specs.Moved.{moved_drift}
 use Rattle.hlc_log_audit.specs.Words.{found_word, missing_row}
 use Rattle.hlc_log_audit.proofs.DriftEvents.{drift_event_exists, drift_origin_exists}
-use Rattle.hlc_answers.proofs.Asked.{among_within}
-use Rattle.hlc_answers.proofs.Found.{answer_within, chain_within, influenced_within, leads_within, tainted_within}
+use Rattle.hlc_explain.proofs.Asked.{among_within}
+use Rattle.hlc_explain.proofs.Found.{answer_within, chain_within, influenced_within, leads_within, tainted_within}
 use Rattle.hlc_log_audit.specs.FirstToBreak.{NamesFirstToBreak}
 use Rattle.hlc_log_audit.proofs.FirstToBreak.{first_moved, one_first}
 use Rattle.hlc_log_audit.proofs.LineFacts.{on_line, one_on_line, position_of_found, position_of_none}

@@ -11,7 +11,7 @@ use Rattle.hlc_causality.specs.Neighbours.{NamesSend, place_of}
 use Rattle.hlc_causality.specs.Predecessors.{previous_of, send_of}
 use Rattle.hlc_causality.proofs.Predecessors.{direct_earlier, previous_is_unique, send_is_unique}
 use Rattle.hlc_causality.proofs.PredecessorsFound.{Finds, previous_found, send_found}
-use Rattle.hlc_answers.proofs.Found.{only_within, within_joined}
+use Rattle.hlc_explain.proofs.Found.{only_within, within_joined}
 use Rattle.hlc_causes.proofs.Disorder.{found_is}
 use Rattle.hlc_log_audit.specs.ClaimedWay.{BringsAlong, BringsGreatestC, BringsL, IsWayOfL, claimed_way, greater_c, if_same_l, source_of, way_back}
 

@@ -8,9 +8,9 @@ use Rattle.hlc_stamp.specs.Order.{Pair}
 use Rattle.hlc_causality.specs.Assignment.{pair_at}
 use Rattle.hlc_explain.specs.declared.answers.Drift.{Drift}
 use Rattle.hlc_explain.specs.declared.answers.Missing.TheVariants as missing
-use Rattle.hlc_answers.specs.Answer.{Answer, answer_of, answer_row}
-use Rattle.hlc_answers.specs.EventQuestion as about
-use Rattle.hlc_answers.specs.EventQuestion.{EventQuestion, events_asked, question_word}
+use Rattle.hlc_explain.specs.Answer.{Answer, answer_of, answer_row}
+use Rattle.hlc_explain.specs.EventQuestion as about
+use Rattle.hlc_explain.specs.EventQuestion.{EventQuestion, events_asked, question_word}
 use Rattle.hlc_causes.specs.declared.answers.Finding.{Finding}
 use Rattle.hlc_csv.specs.Rows.{Fields}
 use Rattle.hlc_log.specs.CausalOrder.{place_at}

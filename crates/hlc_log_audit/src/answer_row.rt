@@ -4,15 +4,15 @@ ghost use Rattle.std.specs.Prelude.{◌≡◌, ◌++◌, IfOk, OnOk, decimal, ma
 ghost use Rattle.std.specs.List.Sorted.{IsPermutation, IsSorted};
 ghost use Rattle.std.specs.Ordering.{nat_cmp};
 ghost use Rattle.hlc_stamp.specs.Ids.{places_of};
-ghost use Rattle.hlc_answers.specs.Answer.{answer_row, last_field, plain_answer};
+ghost use Rattle.hlc_explain.specs.Answer.{answer_row, last_field, plain_answer};
 ghost use Rattle.hlc_csv.specs.Rows.{AddsRow, Fields, row_field_bytes};
 ghost use Rattle.hlc_log_audit.specs.Answers.{AreLinesOf, AreRisingLinesOf, TellsAnswer};
 ghost use Rattle.hlc_log_audit.specs.Lines.{AreEventsIn};
 
 use crate::lines::{line_texts, lines_of, push_texts};
-use hlc_answers::Answer;
 use hlc_csv::RowField::{Number, Text};
 use hlc_csv::{OutputFault, RowBuffer, RowField};
+use hlc_explain::Answer;
 use hlc_log_text::{Files, LineText};
 use hlc_ordered_log::OrderedLog;
 use hlc_stamp::EventId;

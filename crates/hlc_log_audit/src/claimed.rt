@@ -13,11 +13,10 @@ ghost use Rattle.hlc_log_audit.specs.ClaimedWay.{IsWayOfL, claimed_way, greater_
 use crate::answer_row::push_found;
 use crate::lines::find;
 use crate::words::push_missing;
-use hlc_answers::Answer;
 use hlc_causes::Claims;
 use hlc_csv::{OutputFault, RowBuffer};
 use hlc_execution::Execution;
-use hlc_explain::Missing;
+use hlc_explain::{Answer, Missing};
 use hlc_log_text::{Files, LineText, Location};
 use hlc_ordered_log::OrderedLog;
 use hlc_stamp::EventId;

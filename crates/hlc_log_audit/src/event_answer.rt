@@ -2,8 +2,8 @@
 
 ghost use Rattle.std.specs.Prelude.{◌≡◌, IfOk, IfSome, OnOk, length, map, option_map, true};
 ghost use Rattle.hlc_stamp.specs.Ids.{places_of};
-ghost use Rattle.hlc_answers.specs.Answer.{plain_answer};
-ghost use Rattle.hlc_answers.specs.EventQuestion.{can_be_asked, events_asked, plain_question, question_word};
+ghost use Rattle.hlc_explain.specs.Answer.{plain_answer};
+ghost use Rattle.hlc_explain.specs.EventQuestion.{can_be_asked, events_asked, plain_question, question_word};
 ghost use Rattle.hlc_csv.specs.Rows.{AddsRow, Fields};
 ghost use Rattle.hlc_ordered_log.specs.InOrder.{IsInOrder, line_in};
 ghost use Rattle.hlc_log_text.specs.Files.{line_text};
@@ -15,9 +15,10 @@ ghost use Rattle.hlc_log_text.specs.ReadText.{LinesRise};
 use crate::answer_row::push_found;
 use crate::lines::{line_texts, lines_of, position_at, position_or_end, positions_or_end};
 use crate::words::push_missing;
-use hlc_answers::{Answer, AuditFault, EventQuestion, answer_to, events_asked, question_word};
 use hlc_csv::{OutputFault, RowBuffer};
-use hlc_explain::Missing;
+use hlc_explain::{
+    Answer, AuditFault, EventQuestion, Missing, answer_to, events_asked, question_word,
+};
 use hlc_log_text::{Files, LineText, Location, LogQuestion};
 use hlc_ordered_log::OrderedLog;
 use std::alloc::{AllocError, Global};

@@ -14,9 +14,9 @@ use Rattle.hlc_log_picture.specs.Judged.{AreEventFindings}
 use Rattle.hlc_log_picture.specs.StampOrder.{IsInStampOrder}
 use Rattle.hlc_log_picture.specs.Viewed.{NamesRow}
 use Rattle.hlc_csv.specs.declared.records_fault.RecordsFault.TheVariants as records
-use Rattle.hlc_command_fault.specs.Fault.{IsOfAnswer, IsOfInput, draw_stop}
-use Rattle.hlc_command_fault.specs.declared.command_fault.CommandFault.{CommandFault}
-use Rattle.hlc_command_fault.specs.declared.command_fault.CommandFault.TheVariants as stop
+use Rattle.hlc_command_line.specs.CommandFault.{IsOfAnswer, IsOfInput, draw_stop}
+use Rattle.hlc_command_line.specs.declared.command_fault.CommandFault.{CommandFault}
+use Rattle.hlc_command_line.specs.declared.command_fault.CommandFault.TheVariants as stop
 use Rattle.hlc_log_text.specs.declared.log_rules.LogRules.{LogRules}
 use Rattle.hlc_command_line.specs.declared.line_order.DrawLogOptions.{DrawLogOptions}
 use Rattle.hlc_log_commands.specs.DrawnLog.{IsAbsent, IsDrawingStopped, IsLogDrawnUpTo, IsLogDrawnUpToBut, IsOpenedDrawn, IsOpenedLacking, IsViewOf}

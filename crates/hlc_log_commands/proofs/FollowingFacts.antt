@@ -12,8 +12,8 @@ use Rattle.hlc_log_text.specs.Question.{IsQuestionText, plain_asked}
 use Rattle.hlc_log_text.specs.declared.question.LogQuestion.{LogQuestion}
 use Rattle.hlc_command_line.specs.Asked.{AreAsked}
 use Rattle.hlc_csv.specs.declared.records_fault.RecordsFault.TheVariants as records
-use Rattle.hlc_command_fault.specs.declared.command_fault.CommandFault.{CommandFault}
-use Rattle.hlc_command_fault.specs.declared.command_fault.CommandFault.TheVariants as stop
+use Rattle.hlc_command_line.specs.declared.command_fault.CommandFault.{CommandFault}
+use Rattle.hlc_command_line.specs.declared.command_fault.CommandFault.TheVariants as stop
 use Rattle.hlc_log_commands.specs.Following.{AreAdded, AreParts, HoldFor, HoldsOf, IsAddFault, asking_lines, is_marker, lines_above, lines_below, log_part, marker_in, questions_part}
 
 -- the first line of a text and the others, by whether the first byte ends the line

@@ -17,10 +17,10 @@ use Rattle.hlc_command_line.specs.declared.line_order.OutputForm.{OutputForm}
 use Rattle.hlc_command_line.specs.declared.line_order.OutputForm.TheVariants as form
 use Rattle.hlc_csv.specs.declared.records_fault.RecordsFault.{RecordsFault}
 use Rattle.hlc_csv.specs.declared.records_fault.RecordsFault.TheVariants as records
-use Rattle.hlc_command_fault.specs.declared.command_fault.CommandFault.{CommandFault}
-use Rattle.hlc_command_fault.specs.declared.command_fault.CommandFault.TheVariants as stop
-use Rattle.hlc_command_fault.specs.declared.no_events.NoEvents.{NoEvents}
-use Rattle.hlc_command_fault.specs.declared.no_events.NoEvents.TheVariants.{Log}
+use Rattle.hlc_command_line.specs.declared.command_fault.CommandFault.{CommandFault}
+use Rattle.hlc_command_line.specs.declared.command_fault.CommandFault.TheVariants as stop
+use Rattle.hlc_command_line.specs.declared.no_events.NoEvents.{NoEvents}
+use Rattle.hlc_command_line.specs.declared.no_events.NoEvents.TheVariants.{Log}
 
 -- whether a form is text
 abbrev pub is_text : OutputForm → Bool

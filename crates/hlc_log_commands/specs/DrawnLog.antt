@@ -10,8 +10,8 @@ use Rattle.hlc_open_log.specs.Opened.{IsOpened, OpenedLog}
 use Rattle.hlc_log_picture.specs.Drawn.{DrawnLog, IsDrawnOf, drawn_log, drawn_log_chain}
 use Rattle.hlc_log_picture.specs.Viewed.{HasNoRow, IsRowOn, IsViewAround, IsViewBetween}
 use Rattle.hlc_command_line.specs.declared.line_order.DrawLogOptions.{DrawLogOptions}
-use Rattle.hlc_command_fault.specs.declared.command_fault.CommandFault.{CommandFault}
-use Rattle.hlc_command_fault.specs.declared.command_fault.CommandFault.TheVariants as stop
+use Rattle.hlc_command_line.specs.declared.command_fault.CommandFault.{CommandFault}
+use Rattle.hlc_command_line.specs.declared.command_fault.CommandFault.TheVariants as stop
 use Rattle.hlc_log_commands.specs.PartLines.{part_in}
 use Rattle.hlc_log_commands.specs.Unopened.{IsToldBad}
 use Rattle.hlc_command_line.specs.DrawnPart.{event_of_rows}

@@ -6,8 +6,8 @@ use Rattle.hlc_json_lines.specs.EventRow.{is_blank}
 use Rattle.hlc_json_lines.specs.Lines.{lines_of}
 use Rattle.hlc_log_text.specs.declared.question.LogQuestion.{LogQuestion}
 use Rattle.hlc_command_line.specs.Asked.{AreAsked, AsksNone}
-use Rattle.hlc_command_fault.specs.declared.command_fault.CommandFault.{CommandFault}
-use Rattle.hlc_command_fault.specs.declared.command_fault.CommandFault.TheVariants as stop
+use Rattle.hlc_command_line.specs.declared.command_fault.CommandFault.{CommandFault}
+use Rattle.hlc_command_line.specs.declared.command_fault.CommandFault.TheVariants as stop
 
 -- the line below which questions stand
 abbrev pub marker : List ℕ

@@ -5,3 +5,4 @@ pub mod LogVectors
 pub mod PartLines
 pub mod Records
 pub mod Unopened
+pub mod Watched

@@ -3,7 +3,7 @@ use Rattle.std.specs.Prelude.{ℕ, List, Option}
 use Rattle.std.specs.Io.KnownBytes.{Appends}
 use Rattle.hlc_stamp.specs.declared.limits.TheConstants.{MAX_CAPACITY}
 use Rattle.hlc_log_text.specs.declared.log_rules.LogRules.{LogRules}
-use Rattle.hlc_log_vectors.specs.LogVectors.{log_vector_text}
+use Rattle.hlc_log_picture.specs.LogVectors.{log_vector_text}
 use Rattle.hlc_open_log.specs.Opened.{IsOpened, OpenedLog}
 
 -- the input is a log, and the output got its events with their vectors

@@ -5,8 +5,8 @@ use Rattle.hlc_json_lines.specs.Lines.{log_text}
 use Rattle.hlc_json_lines.specs.Rules.{Rules}
 use Rattle.hlc_log_text.specs.ReadLog.{HasTooMany}
 use Rattle.hlc_log_text.specs.declared.log_rules.LogRules.{LogRules}
-use Rattle.hlc_command_fault.specs.declared.command_fault.CommandFault.{CommandFault}
-use Rattle.hlc_command_fault.specs.declared.command_fault.CommandFault.TheVariants as stop
+use Rattle.hlc_command_line.specs.declared.command_fault.CommandFault.{CommandFault}
+use Rattle.hlc_command_line.specs.declared.command_fault.CommandFault.TheVariants as stop
 
 -- the bytes of a log as text in records, if they are known: what its lines of JSON make, if these rules say how they are read
 abbrev pub records_in : Option Rules → Option (List ℕ) → Option (List ℕ)

@@ -5,8 +5,8 @@ use Rattle.hlc_log_text.specs.declared.log_rules.LogRules.{LogRules}
 use Rattle.hlc_open_log.specs.Unopened.{ExplainsOpenFault, bad_text}
 use Rattle.hlc_open_log.specs.declared.bad_input.BadInput.{BadInput}
 use Rattle.hlc_open_log.specs.declared.fault.OpenFault.TheVariants as fault
-use Rattle.hlc_command_fault.specs.declared.command_fault.CommandFault.{CommandFault}
-use Rattle.hlc_command_fault.specs.declared.command_fault.CommandFault.TheVariants as stop
+use Rattle.hlc_command_line.specs.declared.command_fault.CommandFault.{CommandFault}
+use Rattle.hlc_command_line.specs.declared.command_fault.CommandFault.TheVariants as stop
 
 -- the input is no log of at most so many records, and the output got the row by which an audit says why
 abbrev pub IsToldBad : (most : ℕ) → LogRules → (input before after : Option (List ℕ)) → Type 0

@@ -2,15 +2,14 @@
 
 ghost use Rattle.std.specs.Prelude.{◌≡◌, false, None, true, IfErr, IfOk, OnOk};
 ghost use Rattle.hlc_stamp.specs.declared.limits.TheConstants.{MAX_CAPACITY};
-ghost use Rattle.hlc_command_fault.specs.Fault.{IsOfAnswer, IsOfInput};
+ghost use Rattle.hlc_command_line.specs.CommandFault.{IsOfAnswer, IsOfInput};
 ghost use Rattle.hlc_log_commands.specs.Audited.{IsAuditPassed, IsAuditedBut, IsLogNote};
 ghost use Rattle.hlc_log_commands.specs.Following.{HoldFor, HoldsOf, IsQuestionTold, log_in};
 ghost use Rattle.hlc_log_commands.specs.Records.{IsLengthTold, records_in};
 
 use crate::audited_log::audit_log;
 use crate::following::{add_questions, parts, read_all};
-use hlc_command_fault::{CommandFault, NoEvents};
-use hlc_command_line::{AskedBeside, AuditOptions};
+use hlc_command_line::{AskedBeside, AuditOptions, CommandFault, NoEvents};
 use hlc_json_lines::JsonRules;
 use hlc_log_text::{LogQuestion, NameKey};
 use std::alloc::Global;

@@ -5,14 +5,13 @@ ghost use Rattle.hlc_stamp.specs.declared.limits.TheConstants.{MAX_CAPACITY};
 ghost use Rattle.hlc_log_text.specs.ReadLog.{HasTooMany};
 ghost use Rattle.hlc_log_audit.specs.Audit.{TellsEvents};
 ghost use Rattle.hlc_log_groups.specs.GroupRows.{IsGroupedAudit};
-ghost use Rattle.hlc_command_fault.specs.Fault.{IsOfAnswer, IsOfInput};
+ghost use Rattle.hlc_command_line.specs.CommandFault.{IsOfAnswer, IsOfInput};
 ghost use Rattle.hlc_log_commands.specs.Audited.{IsAuditPassed, IsAuditedBut, IsAuditedBy, IsLogNote, audit_stop, log_note, rules_of, told_of};
 ghost use Rattle.hlc_log_commands.specs.Following.{IsOfQuestions};
 ghost use Rattle.hlc_log_commands.specs.Records.{IsLengthTold, records_in};
 
 use hlc_audit_forms::{write_json, write_text};
-use hlc_command_fault::{CommandFault, NoEvents};
-use hlc_command_line::{AuditOptions, OutputForm};
+use hlc_command_line::{AuditOptions, CommandFault, NoEvents, OutputForm};
 use hlc_csv::RecordsFault;
 use hlc_json_lines::{JsonRules, LogInput};
 use hlc_log_audit::{AuditRules, Audited, Outcome};

@@ -2,15 +2,14 @@
 
 ghost use Rattle.std.specs.Prelude.{◌≡◌, ◌↔◌, ◌≤◌, IfErr, IsErrOf, IsTrue, OnOk};
 ghost use Rattle.hlc_stamp.specs.declared.limits.TheConstants.{MAX_CAPACITY};
-ghost use Rattle.hlc_command_fault.specs.Fault.{IsOfAnswer, IsOfInput};
+ghost use Rattle.hlc_command_line.specs.CommandFault.{IsOfAnswer, IsOfInput};
 ghost use Rattle.hlc_log_commands.specs.DrawnLog.{IsAbsent, IsDrawingStopped, IsLogDrawnBut, IsLogDrawnUpTo, IsLogDrawnUpToBut, IsLogDrawnWhole, IsOpenedDrawn, IsOpenedLacking, IsPartDrawn, IsViewOf, LacksNamed};
 ghost use Rattle.hlc_log_commands.specs.Records.{IsLengthTold, records_in};
 ghost use Rattle.hlc_command_line.specs.declared.drawn_part.DrawnPart.TheVariants.{Chain, Rows};
 
 use crate::opening::open_or_tell;
 use crate::part_lines::part_in;
-use hlc_command_fault::CommandFault;
-use hlc_command_line::{DrawLogOptions, DrawnPart, DrawnRows};
+use hlc_command_line::{CommandFault, DrawLogOptions, DrawnPart, DrawnRows};
 use hlc_json_lines::JsonRules;
 use hlc_log_picture::{DrawFault, PicturedLog, View, draw, draw_chain, put_in_row_order};
 use hlc_log_text::NameKey;

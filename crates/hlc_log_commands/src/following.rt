@@ -4,7 +4,7 @@ ghost use Rattle.std.specs.Prelude.{◌≡◌, ◌<◌, ◌++◌, ◌∷◌, [],
 ghost use Rattle.hlc_json_lines.specs.Lines.{lines_of};
 ghost use Rattle.hlc_log_commands.specs.Following.{AreAdded, AreParts, IsAddFault, IsMistaken, IsMistakenAt, IsReadFault, is_marker, log_part, questions_part};
 
-use hlc_command_fault::CommandFault;
+use hlc_command_line::CommandFault;
 use hlc_csv::RecordsFault;
 use hlc_json_lines::is_blank;
 use hlc_log_text::{LogQuestion, question_of};

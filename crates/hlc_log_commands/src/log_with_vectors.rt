@@ -3,17 +3,17 @@
 ghost use Rattle.std.specs.Prelude.{◌≡◌, IfErr, OnOk};
 ghost use Rattle.std.specs.Io.KnownBytes.{Appends};
 ghost use Rattle.hlc_stamp.specs.declared.limits.TheConstants.{MAX_CAPACITY};
-ghost use Rattle.hlc_log_vectors.specs.LogVectors.{log_vector_text};
-ghost use Rattle.hlc_command_fault.specs.Fault.{IsOfAnswer, IsOfInput};
+ghost use Rattle.hlc_log_picture.specs.LogVectors.{log_vector_text};
+ghost use Rattle.hlc_command_line.specs.CommandFault.{IsOfAnswer, IsOfInput};
 ghost use Rattle.hlc_log_commands.specs.LogVectors.{HasVectors};
 ghost use Rattle.hlc_log_commands.specs.Records.{IsLengthTold, records_in};
 ghost use Rattle.hlc_log_commands.specs.Unopened.{IsUnopened};
 
 use crate::opening::open_or_tell;
-use hlc_command_fault::CommandFault;
+use hlc_command_line::CommandFault;
 use hlc_json_lines::JsonRules;
+use hlc_log_picture::write_log_vectors;
 use hlc_log_text::{LogRules, NameKey};
-use hlc_log_vectors::write_log_vectors;
 use hlc_open_log::OpenLog;
 use hlc_stamp::MAX_CAPACITY;
 use std::alloc::Global;

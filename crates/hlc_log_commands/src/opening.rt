@@ -4,11 +4,11 @@ ghost use Rattle.std.specs.Prelude.{◌≡◌, ◌≤◌, IfErr, IfOk, OnOk};
 ghost use Rattle.hlc_stamp.specs.declared.limits.TheConstants.{MAX_CAPACITY};
 ghost use Rattle.hlc_open_log.specs.Opened.{IsOpened};
 ghost use Rattle.hlc_open_log.specs.Unopened.{ExplainsOpenFault};
-ghost use Rattle.hlc_command_fault.specs.Fault.{IsOfAnswer, IsOfInput};
+ghost use Rattle.hlc_command_line.specs.CommandFault.{IsOfAnswer, IsOfInput};
 ghost use Rattle.hlc_log_commands.specs.Records.{IsLengthTold, records_in};
 ghost use Rattle.hlc_log_commands.specs.Unopened.{IsUnopened};
 
-use hlc_command_fault::CommandFault;
+use hlc_command_line::CommandFault;
 use hlc_csv::RecordsFault;
 use hlc_json_lines::{JsonRules, LogInput};
 use hlc_log_text::{LogRules, NameKey};

@@ -1,10 +1,10 @@
-// A caller of `hlc_log_vectors`.
+// A caller of `hlc_log_picture`.
 
 ghost use Rattle.std.specs.Prelude.{◌≡◌, IfOk};
-ghost use Rattle.hlc_log_vectors.specs.LogVectors.{log_vector_text};
+ghost use Rattle.hlc_log_picture.specs.LogVectors.{log_vector_text};
 
 use hlc_csv::OutputFault;
-use hlc_log_vectors::write_log_vectors;
+use hlc_log_picture::write_log_vectors;
 use hlc_open_log::OpenLog;
 use std::alloc::Global;
 

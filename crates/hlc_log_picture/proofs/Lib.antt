@@ -4,3 +4,4 @@ mod PictureLaws
 mod Pictured
 mod SharedDigits
 pub mod StampOrders
+pub mod LinesAdded

@@ -7,3 +7,6 @@ pub mod Looks
 pub mod SharedDigits
 pub mod StampOrder
 pub mod Viewed
+pub mod EventRow
+pub mod LogVectors
+pub mod NodeText

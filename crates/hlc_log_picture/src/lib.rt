@@ -16,6 +16,10 @@
 //! share stand in the headings, and the rows show the rest. These digits are those of the whole log even if only a part is drawn, so that
 //! two parts can be compared.
 //!
+//! `write_log_vectors` writes the log for tools that draw logs themselves, as ShiViz. These draw what happened before what, and read it from
+//! vectors alone, which a log of hybrid logical clocks doesn't have: they are counted from its messages. Of each event there are two lines: its
+//! node with its vector, and a row that says what the log tells of it.
+//!
 //! Events are named by the lines on which their records begin, as in the answers of an audit: `NAME:LINE` in the titles of a log of several files, of
 //! which a dot shows the LINE. It reads no log.
 //!
@@ -34,17 +38,32 @@
 //!     Ok(svg)
 //! }
 //! ```
+//!
+//! Another: the vectors of a log in memory.
+//!
+//! ```rust
+//! pub fn vectors_of(alloc: Global, log: &OpenLog) -> Result<Vec<u8>, OutputFault>
+//!     ensures { IfOk result (λ text. text.items ≡ log_vector_text log.now) }
+//! {
+//!     let mut text = Vec::new(alloc);
+//!     write_log_vectors(alloc, log, &mut text)?;
+//!     Ok(text)
+//! }
+//! ```
 #![tactic(auto)]
 
 mod cells;
 mod drawing;
 mod event_finding;
+mod event_row;
 pub mod laws;
 mod look;
+mod node_names;
 mod pictured_log;
 mod places;
 mod shared_digits;
 mod stamp_order;
+mod vector_log;
 
 pub use drawing::{draw, draw_chain};
 pub use event_finding::EventFinding;
@@ -52,3 +71,4 @@ pub use hlc_diagram::{DrawFault, MOST_EVENTS, View};
 pub use look::form_of;
 pub use pictured_log::PicturedLog;
 pub use stamp_order::{put_in_row_order, put_in_stamp_order};
+pub use vector_log::write_log_vectors;

@@ -21,7 +21,7 @@ use Rattle.hlc_command_line.specs.declared.line_order.LogLine.TheVariants.{Count
 use Rattle.hlc_command_line.specs.declared.line_order.LogLine.{LogLine}
 use Rattle.hlc_command_line.specs.declared.line_order.OutputForm.TheVariants as form
 use Rattle.hlc_command_line.specs.declared.line_order.OutputForm.{OutputForm}
-use Rattle.hlc_command_fault.specs.declared.command_fault.CommandFault.TheVariants as stop
+use Rattle.hlc_command_line.specs.declared.command_fault.CommandFault.TheVariants as stop
 use Rattle.hlc_trace.specs.Trace.{IsJudged}
 use Rattle.hlc_seeded.specs.Storm.{storm_of}
 use Rattle.hlc_text.specs.Steps.{printed_text}

@@ -11,7 +11,7 @@ use crate::status::{
     PAGE_BAD_LOG, PAGE_BROKEN, PAGE_OK, PAGE_OVER_LIMIT, PAGE_ROOM, PAGE_SETTINGS, PAGE_TOO_LONG,
     given_status, status,
 };
-use hlc_command_fault::CommandFault;
+use hlc_command_line::CommandFault;
 use hlc_log_audit::Outcome;
 use hlc_log_commands::audit_by;
 use hlc_log_text::NameKey;

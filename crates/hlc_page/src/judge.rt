@@ -6,7 +6,7 @@ ghost use Rattle.hlc_page.specs.Status.{IsStatusOf};
 
 use crate::room::put;
 use crate::status::{PAGE_OK, PAGE_SETTINGS, PAGE_TOO_LONG, status};
-use hlc_command_fault::CommandFault;
+use hlc_command_line::CommandFault;
 use hlc_trace::judge_run;
 use std::alloc::Global;
 

@@ -1,10 +1,10 @@
 ghost use Rattle.std.specs.Prelude.{◌≡◌, ◌↔◌, ◌∷◌, []};
 ghost use Rattle.hlc_csv.specs.declared.records_fault.RecordsFault.TheVariants as records;
-ghost use Rattle.hlc_command_fault.specs.declared.command_fault.CommandFault.TheVariants as stop;
+ghost use Rattle.hlc_command_line.specs.declared.command_fault.CommandFault.TheVariants as stop;
 ghost use Rattle.hlc_page.specs.declared.page_fault.PageFault.TheVariants as page;
 
 use crate::page_fault::PageFault;
-use hlc_command_fault::CommandFault;
+use hlc_command_line::CommandFault;
 use hlc_csv::RecordsFault;
 
 /// The answer stands at the front of the room.

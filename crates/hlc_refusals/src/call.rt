@@ -1,6 +1,6 @@
 use crate::ask::Ask;
-use hlc_audit::Summary;
 use hlc_core::Accepted;
+use hlc_explain::Summary;
 use hlc_stamp::EventId;
 
 /// A call.

@@ -1,10 +1,10 @@
 use hlc_arena::ReserveFault;
-use hlc_audit::AuditFault;
 use hlc_core::{ClusterFault, Refusal};
 use hlc_seeded::StormFault;
 use hlc_shared::{LogFault, SharedFault};
 use hlc_text::{OutputFault, TextFault};
 use hlc_trace::RecordsFault;
+use hlc_verdict::AuditFault;
 use std::alloc::AllocError;
 use std::io;
 

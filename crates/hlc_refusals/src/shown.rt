@@ -3,8 +3,8 @@
 ghost use Rattle.std.specs.Prelude.{◌<◌, length};
 
 use hlc_arena::Arena;
-use hlc_audit::{drift, relation};
 use hlc_core::Cluster;
+use hlc_explain::{drift, relation};
 use hlc_stamp::{EventId, NodeId};
 use hlc_table::Table;
 use std::fmt;

@@ -17,7 +17,7 @@ use Rattle.hlc_text.specs.declared.undelivered.Undelivered.{Undelivered as LeftU
 use Rattle.hlc_command_line.specs.declared.drawn_part.DrawnPart.{DrawnPart}
 use Rattle.hlc_command_line.specs.declared.drawn_part.DrawnPart.TheVariants.{Rows}
 use Rattle.hlc_command_line.specs.declared.drawn_part.DrawnRows.{DrawnRows}
-use Rattle.hlc_command_fault.specs.declared.no_events.NoEvents.{NoEvents}
+use Rattle.hlc_command_line.specs.declared.no_events.NoEvents.{NoEvents}
 use Rattle.hlc_script_commands.specs.NoEvents.{IsNoteOn, note_of}
 use Rattle.hlc_script_commands.specs.Drawn.{IsDrawnWhole, IsDrawnWithout, IsScriptDrawn, LacksNamed, LeavesHistory, LeavesUndelivered, part_text, pictured_message, view_of}
 

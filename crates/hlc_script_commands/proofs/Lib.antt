@@ -1,2 +1,3 @@
 pub mod DrawnScripts
 mod ScriptStops
+pub mod PlayedScripts

@@ -12,8 +12,8 @@ use Rattle.hlc_seeded.specs.declared.storm_fault.StormFault.TheVariants as storm
 use Rattle.hlc_text.specs.declared.text_fault.TextFault.{TextFault}
 use Rattle.hlc_text.specs.declared.text_fault.TextFault.TheVariants as text
 use Rattle.hlc_text.specs.Run.{Overran}
-use Rattle.hlc_command_fault.specs.Fault.{IsOfAnswer, draw_stop}
-use Rattle.hlc_command_fault.specs.declared.command_fault.CommandFault.TheVariants as stop
+use Rattle.hlc_command_line.specs.CommandFault.{IsOfAnswer, draw_stop}
+use Rattle.hlc_command_line.specs.declared.command_fault.CommandFault.TheVariants as stop
 use Rattle.hlc_script_commands.specs.ScriptStop.{storm_stop, text_stop}
 use Rattle.hlc_script_commands.specs.TooLong.{IsScriptTooLong}
 

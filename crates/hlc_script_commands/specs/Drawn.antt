@@ -23,8 +23,8 @@ use Rattle.hlc_command_line.specs.declared.drawn_part.DrawnPart.{DrawnPart}
 use Rattle.hlc_command_line.specs.declared.drawn_part.DrawnPart.TheVariants.{Chain, Rows}
 use Rattle.hlc_command_line.specs.declared.drawn_part.DrawnRows.{DrawnRows}
 use Rattle.hlc_command_line.specs.declared.drawn_part.DrawnRows.TheVariants.{Around, Between}
-use Rattle.hlc_command_fault.specs.declared.command_fault.CommandFault.{CommandFault}
-use Rattle.hlc_command_fault.specs.declared.command_fault.CommandFault.TheVariants as stop
+use Rattle.hlc_command_line.specs.declared.command_fault.CommandFault.{CommandFault}
+use Rattle.hlc_command_line.specs.declared.command_fault.CommandFault.TheVariants as stop
 
 -- the history that records leave, given the stamps of the events by their places
 abbrev pub history_after : List Pair → Settings → List Fields → History

@@ -4,3 +4,4 @@ pub mod NoEvents
 pub mod ScriptStop
 pub mod TooLong
 pub mod Traced
+pub mod Played

@@ -2,8 +2,8 @@
 use Rattle.std.specs.Prelude.{◌≡◌, ◌==◌, ◌&&◌, ℕ, List, None, Option, Some, if◌then◌else◌, length, nat_lt}
 use Rattle.hlc_stamp.specs.declared.settings.Settings.{Settings}
 use Rattle.hlc_arena.specs.History.{History}
-use Rattle.hlc_command_fault.specs.declared.no_events.NoEvents.{NoEvents}
-use Rattle.hlc_command_fault.specs.declared.no_events.NoEvents.TheVariants.{Script}
+use Rattle.hlc_command_line.specs.declared.no_events.NoEvents.{NoEvents}
+use Rattle.hlc_command_line.specs.declared.no_events.NoEvents.TheVariants.{Script}
 use Rattle.hlc_script_commands.specs.Drawn.{LeavesHistory}
 
 -- the note on a script with so many records and events: it is there if there are records and no event

@@ -4,8 +4,8 @@ use Rattle.hlc_seeded.specs.declared.storm_fault.StormFault.{StormFault}
 use Rattle.hlc_seeded.specs.declared.storm_fault.StormFault.TheVariants as storm
 use Rattle.hlc_text.specs.declared.text_fault.TextFault.{TextFault}
 use Rattle.hlc_text.specs.declared.text_fault.TextFault.TheVariants as text
-use Rattle.hlc_command_fault.specs.declared.command_fault.CommandFault.{CommandFault}
-use Rattle.hlc_command_fault.specs.declared.command_fault.CommandFault.TheVariants as stop
+use Rattle.hlc_command_line.specs.declared.command_fault.CommandFault.{CommandFault}
+use Rattle.hlc_command_line.specs.declared.command_fault.CommandFault.TheVariants as stop
 
 -- a fault of the run of a script, as a command's
 abbrev pub text_stop : TextFault → CommandFault

@@ -4,11 +4,11 @@ ghost use Rattle.std.specs.Prelude.{◌≡◌, ◌↔◌, IfErr, IsErrOf, IsSome
 ghost use Rattle.hlc_stamp.specs.declared.limits.TheConstants.{MAX_RECORDS};
 ghost use Rattle.hlc_core.specs.State.{new_refusal};
 ghost use Rattle.hlc_text.specs.Run.{Overran};
-ghost use Rattle.hlc_command_fault.specs.Fault.{IsOfAnswer};
+ghost use Rattle.hlc_command_line.specs.CommandFault.{IsOfAnswer};
 ghost use Rattle.hlc_script_commands.specs.Answered.{IsScriptAnswered};
 
 use crate::script_stop::stop_of_text;
-use hlc_command_fault::CommandFault;
+use hlc_command_line::CommandFault;
 use hlc_csv::RecordsFault;
 use hlc_stamp::Settings;
 use hlc_text::run;

@@ -3,7 +3,7 @@
 ghost use Rattle.std.specs.Prelude.{◌≡◌};
 ghost use Rattle.hlc_script_commands.specs.NoEvents.{note_of};
 
-use hlc_command_fault::NoEvents;
+use hlc_command_line::NoEvents;
 use hlc_text::Counts;
 
 // What there is to note of a script of which this came.

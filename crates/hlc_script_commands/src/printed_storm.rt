@@ -4,10 +4,10 @@ ghost use Rattle.std.specs.Prelude.{◌≡◌, ◌↔◌, IfErr, IsErrOf, OnOk, 
 ghost use Rattle.std.specs.Io.KnownBytes.{Appends};
 ghost use Rattle.hlc_seeded.specs.Storm.{are_settings, storm_of};
 ghost use Rattle.hlc_text.specs.Steps.{printed_text};
-ghost use Rattle.hlc_command_fault.specs.Fault.{IsOfAnswer, IsOfInput};
+ghost use Rattle.hlc_command_line.specs.CommandFault.{IsOfAnswer, IsOfInput};
 
 use crate::script_stop::stop_of_storm;
-use hlc_command_fault::CommandFault;
+use hlc_command_line::CommandFault;
 use hlc_seeded::storm;
 use hlc_text::print_steps;
 use std::alloc::Global;

@@ -3,7 +3,7 @@
 ghost use Rattle.std.specs.Prelude.{◌≡◌};
 ghost use Rattle.hlc_script_commands.specs.ScriptStop.{storm_stop, text_stop};
 
-use hlc_command_fault::CommandFault;
+use hlc_command_line::CommandFault;
 use hlc_csv::RecordsFault;
 use hlc_seeded::StormFault;
 use hlc_text::TextFault;

@@ -4,7 +4,7 @@ ghost use Rattle.std.specs.Prelude.{◌≡◌, ◌↔◌, ◌⊎◌, IfErr, IfOk
 ghost use Rattle.std.specs.Io.KnownBytes.{Appends};
 ghost use Rattle.hlc_arena.specs.Arena.{history_of};
 ghost use Rattle.hlc_core.specs.State.{new_refusal};
-ghost use Rattle.hlc_command_fault.specs.Fault.{IsOfAnswer, IsOfInput};
+ghost use Rattle.hlc_command_line.specs.CommandFault.{IsOfAnswer, IsOfInput};
 ghost use Rattle.hlc_script_commands.specs.Drawn.{IsScriptFor, LeavesHistory};
 ghost use Rattle.hlc_script_commands.specs.NoEvents.{IsNoteOn};
 ghost use Rattle.hlc_script_commands.specs.TooLong.{IsScriptTooLong};
@@ -14,7 +14,7 @@ use crate::no_events::note_on;
 use crate::nowhere::Nowhere;
 use crate::script_stop::stop_of_text;
 use hlc_arena::Arena;
-use hlc_command_fault::{CommandFault, NoEvents};
+use hlc_command_line::{CommandFault, NoEvents};
 use hlc_csv::{OutputFault, RecordsFault};
 use hlc_history_log::{write_log, write_vectors};
 use hlc_stamp::Settings;

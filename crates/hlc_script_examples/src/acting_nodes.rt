@@ -2,7 +2,7 @@
 
 ghost use Rattle.std.specs.Prelude.{◌≡◌, ℕ, ◌↔◌, IfOk, Ok, Some, option_map};
 ghost use Rattle.csv.specs.Records.{fields_of};
-ghost use Rattle.hlc_request.specs.Request.{Request};
+ghost use Rattle.hlc_core.specs.Request.{Request};
 ghost use Rattle.hlc_text.specs.Statement.{Act, statement_of};
 
 use csv::ByteRecord;

@@ -4,7 +4,7 @@ use Rattle.std.specs.Prelude.{◌==◌, cond}
 use Rattle.std.proofs.lemmas.Bool.{cases_lt, eqb-true}
 use Rattle.std.proofs.lemmas.Bool.Decides.{nat_tests}
 use Rattle.hlc_core.specs.Asked.{Asked, ToAct, ToLose}
-use Rattle.hlc_request.specs.Timed.{TimedRequest}
+use Rattle.hlc_core.specs.Timed.{TimedRequest}
 use Rattle.hlc_seeded.specs.Interleavings.{asked_at}
 
 -- how many requests were made

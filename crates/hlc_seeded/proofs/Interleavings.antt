@@ -7,8 +7,8 @@ use Rattle.std.proofs.lemmas.Bool.Decides.{nat_tests}
 use Rattle.std.proofs.lemmas.List.{get_or_past}
 use Rattle.std.proofs.lemmas.List.FromFn.{get_or-map-range_with_len, length-map-range_with_len}
 use Rattle.hlc_core.specs.Asked.{Asked, ToAct, ToLose}
-use Rattle.hlc_request.specs.Request.{Request}
-use Rattle.hlc_request.specs.Timed.{TimedRequest}
+use Rattle.hlc_core.specs.Request.{Request}
+use Rattle.hlc_core.specs.Timed.{TimedRequest}
 use Rattle.hlc_seeded.specs.declared.draw.Draw.{Draw}
 use Rattle.hlc_seeded.specs.Interleavings.{IsInterleaving, asked_at}
 use Rattle.hlc_seeded.specs.Storm.{draw_of, script_of, scripts_of, step_of}

@@ -4,8 +4,8 @@ use Rattle.std.specs.Prelude.{cond}
 use Rattle.std.specs.List.{range_with_len}
 use Rattle.std.proofs.lemmas.List.FromFn.{map-range_with_len_more}
 use Rattle.rand_pcg.specs.Lcg.{Lcg}
-use Rattle.hlc_request.specs.Request.{Request}
-use Rattle.hlc_request.specs.Timed.{TimedRequest}
+use Rattle.hlc_core.specs.Request.{Request}
+use Rattle.hlc_core.specs.Timed.{TimedRequest}
 use Rattle.hlc_seeded.specs.declared.draw.Draw.{Draw}
 use Rattle.hlc_seeded.specs.Storm.{choice_for, draw_of, is_update, key_for, latest_key, reading_for, request_of_choice, script_of, step_of, word_at}
 use Rattle.hlc_seeded.proofs.Words.{draw_of-on, on, on-on}

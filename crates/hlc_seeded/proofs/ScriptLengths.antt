@@ -6,8 +6,8 @@ use Rattle.std.specs.List.{range_with_len}
 use Rattle.std.proofs.lemmas.List.{length-map}
 use Rattle.std.proofs.lemmas.List.Elements.{All-map}
 use Rattle.std.proofs.lemmas.List.FromFn.{length-map-range_with_len}
-use Rattle.hlc_request.specs.declared.step.Step.{Step}
-use Rattle.hlc_request.specs.Timed.{HaveLength, requests_in, timed_request_of}
+use Rattle.hlc_core.specs.declared.step.Step.{Step}
+use Rattle.hlc_core.specs.Timed.{HaveLength, requests_in, timed_request_of}
 use Rattle.hlc_seeded.specs.Storm.{generator_of, scripts_of, step_of, storm_of, word_at}
 use Rattle.hlc_seeded.proofs.ScriptGrowth.{script_at}
 

@@ -9,7 +9,7 @@ use Rattle.std.proofs.lemmas.Nat.{mod-mul-add}
 use Rattle.hlc_stamp.specs.declared.limits.TheConstants.{MAX_KEY_LEN, MAX_READING, MAX_VALUE_LEN}
 use Rattle.hlc_core.specs.State.{State}
 use Rattle.hlc_core.specs.Step.{PassesCommon, first_refusal, is_bad_key, is_bad_value, own_refusals}
-use Rattle.hlc_request.specs.Request.{ToPull}
+use Rattle.hlc_core.specs.Request.{ToPull}
 use Rattle.hlc_core.proofs.Answering.{may_be_sent, may_be_written, target_passes}
 use Rattle.hlc_seeded.specs.declared.draw.Choice.{Choice}
 use Rattle.hlc_seeded.specs.declared.draw.Choice.TheVariants.{Erase, Pull, Send, Write}

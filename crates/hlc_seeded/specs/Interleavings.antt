@@ -1,10 +1,10 @@
 -- Lists of steps, one for each node, interleaved into one.
 use Rattle.std.specs.Prelude.{◌≡◌, ◌==◌, ℕ, ◌*◌, ◌≤◌, None, List, [], ◌∷◌, ◌++◌, slice_index_or, if◌then◌else◌}
 use Rattle.hlc_core.specs.Asked.{Asked, StepsAlong, ToAct, ToLose}
-use Rattle.hlc_request.specs.Request.{Request}
+use Rattle.hlc_core.specs.Request.{Request}
 use Rattle.hlc_core.specs.State.{State, new_refusal, new_state}
 use Rattle.hlc_core.specs.Step.{refusal_of}
-use Rattle.hlc_request.specs.Timed.{TimedRequest}
+use Rattle.hlc_core.specs.Timed.{TimedRequest}
 use Rattle.hlc_seeded.specs.Storm.{scripts_of}
 
 -- what a node is asked, in order

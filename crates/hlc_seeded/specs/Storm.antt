@@ -5,8 +5,8 @@ use Rattle.rand_core.specs.Pcg32Seed.{pcg32_seed}
 use Rattle.rand_pcg.specs.Lcg.{Lcg, advance}
 use Rattle.rand_pcg.specs.Pcg.{multiplier_64, pcg32, pcg32_of_seed}
 use Rattle.hlc_stamp.specs.declared.limits.TheConstants.{MAX_NODES, MAX_STEPS, MIN_NODES, MIN_STEPS}
-use Rattle.hlc_request.specs.Request.{Request, ToErase, ToPull, ToSend, ToWrite}
-use Rattle.hlc_request.specs.Timed.{TimedRequest}
+use Rattle.hlc_core.specs.Request.{Request, ToErase, ToPull, ToSend, ToWrite}
+use Rattle.hlc_core.specs.Timed.{TimedRequest}
 use Rattle.hlc_seeded.specs.declared.draw.Choice.{Choice}
 use Rattle.hlc_seeded.specs.declared.draw.Choice.TheVariants.{Erase, Pull, Send, Write}
 use Rattle.hlc_seeded.specs.declared.draw.Draw.{Draw}

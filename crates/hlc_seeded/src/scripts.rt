@@ -1,6 +1,6 @@
 ghost use Rattle.std.specs.Prelude.{true, ◌≡◌, ◌*◌, ◌<◌, ◌≤◌, length, map, IfErr, IfOk, OnOk};
-ghost use Rattle.hlc_request.specs.Request.{request_of};
-ghost use Rattle.hlc_request.specs.Timed.{HaveLength, requests_in, timed_request_of};
+ghost use Rattle.hlc_core.specs.Request.{request_of};
+ghost use Rattle.hlc_core.specs.Timed.{HaveLength, requests_in, timed_request_of};
 ghost use Rattle.rand_pcg.specs.Lcg.{advance};
 ghost use Rattle.rand_pcg.specs.Pcg.{multiplier_64};
 ghost use Rattle.hlc_seeded.specs.Faults.{IsFaultOfStorm};
@@ -8,7 +8,7 @@ ghost use Rattle.hlc_seeded.specs.Storm.{are_settings, choice_for, draw_of, requ
 
 use crate::draw::{Choice, Draw};
 use crate::storm_fault::StormFault;
-use hlc_request::{Action, Step};
+use hlc_core::{Action, Step};
 use hlc_stamp::{MAX_NODES, MAX_STEPS, MIN_NODES, MIN_STEPS};
 use itoa::Buffer;
 use rand_core::SeedableRng;

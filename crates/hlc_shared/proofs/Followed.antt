@@ -4,8 +4,8 @@ use Rattle.std.proofs.lemmas.List.{map-append}
 use mathlib.Core.Logic.{inl, inr}
 use Rattle.std.specs.Prelude.{ℕ, Option}
 use Rattle.hlc_stamp.specs.Order.{Pair}
-use Rattle.hlc_request.specs.Request.{Request}
-use Rattle.hlc_request.specs.Timed.{TimedRequest}
+use Rattle.hlc_core.specs.Request.{Request}
+use Rattle.hlc_core.specs.Timed.{TimedRequest}
 use Rattle.hlc_held.specs.LogEntry.{DidAct, LogEntry}
 use Rattle.hlc_shared.specs.Replicas.{HasFollowed, IsSubsequence, request_logged}
 

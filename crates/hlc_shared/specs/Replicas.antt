@@ -1,6 +1,6 @@
 -- What replicas do that follow lists of steps.
 use Rattle.std.specs.Prelude.{◌≡◌, ◌⊎◌, ℕ, Bool, true, false, Option, Some, None, List, [], ◌∷◌, ◌++◌, map, slice_get}
-use Rattle.hlc_request.specs.Timed.{TimedRequest}
+use Rattle.hlc_core.specs.Timed.{TimedRequest}
 use Rattle.hlc_held.specs.LogEntry.{DidAct, DidLook, LogEntry}
 use Rattle.hlc_held.specs.Seats.{NodeLog}
 

@@ -1,6 +1,6 @@
 -- What comes of running replicas.
 use Rattle.std.specs.Prelude.{ℕ, ◌<◌, Bool, true, false, List, Option}
-use Rattle.hlc_request.specs.Timed.{TimedRequest}
+use Rattle.hlc_core.specs.Timed.{TimedRequest}
 use Rattle.hlc_shared.specs.declared.log_fault.LogFault.TheVariants as log
 use Rattle.hlc_shared.specs.declared.shared_fault.SharedFault.{SharedFault}
 use Rattle.hlc_shared.specs.declared.shared_fault.SharedFault.TheVariants.{GateShut, Memory, Mismatch}

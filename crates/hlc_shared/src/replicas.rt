@@ -1,15 +1,15 @@
 // Replicas in threads of their own, which follow lists of steps.
 
 ghost use Rattle.std.specs.Prelude.{◌≡◌, ◌∷◌, [], IfErr, MatchOption, OnOk, map};
-ghost use Rattle.hlc_request.specs.Timed.{timed_request_of};
+ghost use Rattle.hlc_core.specs.Timed.{timed_request_of};
 ghost use Rattle.hlc_shared.specs.Replicas.{HasFollowed, HasRun, IsShutOut};
 
 use crate::fate::Fate;
 use crate::gate::Gate;
 use crate::jobs::Work;
 use crate::shared::Shared;
+use hlc_core::{Refusal, Step};
 use hlc_held::{Group, Seat};
-use hlc_request::{Refusal, Step};
 use std::collections::VecDeque;
 use std::sync::Wait;
 

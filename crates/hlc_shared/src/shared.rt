@@ -1,5 +1,5 @@
 ghost use Rattle.std.specs.Prelude.{◌≡◌, ℕ, IfErr, IfOk, None, OnErr, OnOk, Some, option_map, vec_len};
-ghost use Rattle.hlc_request.specs.Request.{request_of};
+ghost use Rattle.hlc_core.specs.Request.{request_of};
 ghost use Rattle.hlc_core.specs.State.{IsFaultOfNew, new_refusal};
 ghost use Rattle.hlc_core.specs.Step.{first_refusal};
 ghost use Rattle.hlc_held.specs.StatelessRefusals.{IsDue, stateless_refusals};
@@ -13,9 +13,8 @@ ghost use Rattle.hlc_arena.specs.Arena.{history_of};
 
 use crate::closed::{Closed, compare_log, compare_logs};
 use crate::log_fault::LogFault;
-use hlc_core::{Accepted, Cluster, NoMessage};
+use hlc_core::{Accepted, Action, Cluster, ClusterFault, NoMessage, Refusal};
 use hlc_held::{Frozen, Group, Held, Seat, Seen};
-use hlc_request::{Action, ClusterFault, Refusal};
 use hlc_stamp::{EventId, Settings};
 use std::alloc::{AllocError, Global};
 use std::sync::ledger::Blank;

@@ -3,7 +3,7 @@ use Rattle.std.proofs.Common.{◌≡◌, ◌<◌, ◌↔◌, ℕ, zero, suc, Lis
 use Rattle.std.specs.Prelude.{slice_get}
 use Rattle.hlc_stamp.specs.Order.{Pair}
 use Rattle.hlc_arena.specs.History.{StampedEvent, Written, event_at}
-use Rattle.hlc_request.specs.Request.{Request, ToWrite}
+use Rattle.hlc_core.specs.Request.{Request, ToWrite}
 use Rattle.hlc_held.specs.Agreement.{Agrees, FitsAfter, FitsThere, IsAnswerTo, places_of_node}
 use Rattle.hlc_held.specs.LogEntry.{DidAct, LogEntry}
 

@@ -2,12 +2,12 @@
 
 ghost use Rattle.std.specs.Prelude.{◌≡◌, ◌∷◌, ◌↔◌, [], IfOk, IsTrue};
 ghost use Rattle.hlc_arena.specs.ClockRule.{HasLeastStamps};
-ghost use Rattle.hlc_request.specs.Request.{ToWrite};
+ghost use Rattle.hlc_core.specs.Request.{ToWrite};
 ghost use Rattle.hlc_held.specs.Agreement.{IsAnswerTo, places_of_node};
 
 use hlc_arena::Arena;
+use hlc_core::Action;
 use hlc_held::{Logged, agrees};
-use hlc_request::Action;
 use hlc_stamp::{EventId, NodeId, Stamp};
 use std::alloc::{AllocError, Global};
 

@@ -7,10 +7,10 @@ ghost use Rattle.hlc_core.specs.Sound.{IsSound};
 ghost use Rattle.hlc_held.specs.Seats.{with_entry};
 ghost use Rattle.hlc_held.specs.LogEntry.{DidAct, DidLook, sight_of};
 ghost use Rattle.hlc_held.specs.Sights.{sight_of_key};
-ghost use Rattle.hlc_request.specs.Request.{ToWrite};
+ghost use Rattle.hlc_core.specs.Request.{ToWrite};
 
+use hlc_core::{Action, Refusal};
 use hlc_held::{Group, Held, Seat, Seen};
-use hlc_request::{Action, Refusal};
 use std::alloc::Global;
 
 /// Writes a key through a seat, and reads it there. The read shows the node's entry, which is another write if that has a

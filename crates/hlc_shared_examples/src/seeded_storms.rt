@@ -4,8 +4,8 @@ ghost use Rattle.std.specs.Prelude.{◌≡◌, ℕ, ◌*◌, List, None, ◌∷�
 ghost use Rattle.hlc_core.specs.Asked.{Asked, StepsAlong, ToAct};
 ghost use Rattle.hlc_core.specs.State.{State, new_state};
 ghost use Rattle.hlc_core.specs.Step.{refusal_of};
-ghost use Rattle.hlc_request.specs.Request.{Request};
-ghost use Rattle.hlc_request.specs.Timed.{requests_in};
+ghost use Rattle.hlc_core.specs.Request.{Request};
+ghost use Rattle.hlc_core.specs.Timed.{requests_in};
 ghost use Rattle.hlc_seeded.specs.Interleavings.{IsInterleaving};
 ghost use Rattle.hlc_seeded.specs.Storm.{storm_of};
 

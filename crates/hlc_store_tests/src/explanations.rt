@@ -4,8 +4,8 @@ ghost use Rattle.std.specs.Prelude.{◌^◌, ◌<◌, length};
 ghost use Rattle.hlc_arena.specs.ClockRule.{HasLeastStamps};
 
 use hlc_arena::{Arena, Record};
-use hlc_audit::{Summary, explain_all};
 use hlc_core::{ActionRef, Cluster};
+use hlc_explain::{Summary, explain_all};
 use hlc_stamp::{EventId, NodeId};
 use std::alloc::Global;
 use std::process::Abort;

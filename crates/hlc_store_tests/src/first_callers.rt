@@ -3,11 +3,11 @@
 ghost use Rattle.hlc_arena.specs.ClockRule.{HasLeastStamps};
 
 use hlc_arena::{Arena, ReserveFault};
-use hlc_audit::{Summary, explain_all};
 use hlc_core::Cluster;
 use hlc_examples::{
     explain_stamp, keep_message, pass_message, pass_packed, record_write, share_colour,
 };
+use hlc_explain::{Summary, explain_all};
 use hlc_packed::PackedBits;
 use hlc_stamp::{EventId, NodeId, Stamp};
 use std::alloc::Global;

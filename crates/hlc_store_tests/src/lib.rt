@@ -1,4 +1,4 @@
-//! Tests of the crates from `hlc_stamp` to `hlc_audit` through their public calls, some by scripts of `hlc_seeded`, and of
+//! Tests of the crates from `hlc_stamp` to `hlc_explain` through their public calls, some by scripts of `hlc_seeded`, and of
 //! `hlc_examples`. What a run of the program shows of them is tested by .ci/program.
 #![tactic(auto)]
 

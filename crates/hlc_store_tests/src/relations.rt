@@ -4,8 +4,8 @@ ghost use Rattle.std.specs.Prelude.{◌<◌};
 
 use crate::random::next;
 use hlc_arena::{Arena, Record};
-use hlc_audit::{Relation, relation};
 use hlc_core::{ActionRef, Cluster};
+use hlc_explain::{Relation, relation};
 use hlc_stamp::{EventId, NodeId};
 use std::alloc::Global;
 use std::process::Abort;

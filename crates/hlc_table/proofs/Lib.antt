@@ -15,3 +15,5 @@ pub mod NextWrites
 pub mod OneTable
 pub mod Walks
 pub mod Repeats
+pub mod SnapshotCuts
+pub mod Cuts

@@ -6,3 +6,5 @@ pub mod NextEvent
 pub mod NodeWalk
 pub mod TableNews
 pub mod Repeats
+pub mod Snapshot
+pub mod CutLaws

@@ -12,6 +12,8 @@
 //! - `entries` goes over the keys, in the order in which they were first learnt.
 //! - `learn_next` lets a table learn what the next event of a history makes known at its node.
 //! - `is_repeat` tells a message that is delivered again, and so brings nothing new.
+//! - `snapshot` gives the table that a node had at a stamp. The events of all nodes with stamps up to that one are a consistent cut
+//!   (`cuts_are_consistent`).
 //! - `NodeWalk` goes along a node's events in order, with the table of what the node knows so far.
 //!
 //! A table holds ranks and no values: an entry names the event that wrote, and the history (`hlc_arena`) has what was written.
@@ -60,13 +62,15 @@ mod news;
 mod next_event;
 mod node_walk;
 mod repeat;
+mod snapshots;
 mod table;
 
 pub use entries::Entries;
 pub use entry::Entry;
-pub use laws::greatest_rank_wins;
+pub use laws::{cuts_are_consistent, greatest_rank_wins};
 pub use learner::learn_next;
 pub use next_event::NextEvent;
 pub use node_walk::NodeWalk;
 pub use repeat::is_repeat;
+pub use snapshots::snapshot;
 pub use table::Table;

@@ -5,15 +5,15 @@ use Rattle.hlc_stamp.specs.Order.{Pair}
 use Rattle.hlc_causality.specs.Assignment.{pair_at}
 use Rattle.hlc_arena.specs.History.{StampedEvent, stamps_of}
 use Rattle.hlc_arena.specs.ClockRule.{HasLeastStamps}
-use Rattle.hlc_request.specs.Request.{Request}
+use Rattle.hlc_core.specs.Request.{Request}
 use Rattle.hlc_core.specs.State.{State, is_live}
 use Rattle.hlc_core.specs.Step.{Accepts, accept, event_for, live_after, refusal_of, state_with, with_lost}
 use Rattle.hlc_core.specs.declared.accepted.Accepted.{Accepted}
 use Rattle.hlc_core.proofs.Passed.{made_is}
 use Rattle.hlc_csv.specs.Rows.{Fields, refusal_row}
 use Rattle.hlc_pool.specs.declared.no_message.NoMessage.{NoMessage as NoLiveMessage}
-use Rattle.hlc_request.specs.declared.refusal.Refusal.{Refusal}
-use Rattle.hlc_request.specs.declared.refusal.Refusal.TheVariants.{Memory, NoMessage}
+use Rattle.hlc_core.specs.declared.refusal.Refusal.{Refusal}
+use Rattle.hlc_core.specs.declared.refusal.Refusal.TheVariants.{Memory, NoMessage}
 use Rattle.hlc_text.specs.Words.{refusal_word}
 use Rattle.hlc_text.specs.Answer.{Answer, Gives, TellLoss, TellRequest, event_row, lost_row, statement_answer, step_answer}
 use Rattle.hlc_text.specs.Statement.{Lose}

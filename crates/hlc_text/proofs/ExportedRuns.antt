@@ -16,10 +16,10 @@ use Rattle.hlc_core.specs.Asked.{Asked, StepsAlong, StepsTo, with_stamp}
 use Rattle.hlc_core.specs.Lawful.{IsLawful}
 use Rattle.hlc_core.specs.Limit.{AreWithinLimit}
 use Rattle.hlc_core.specs.Replay.{AllAccepted, asked_again, event_again, request_for}
-use Rattle.hlc_request.specs.Request.{Request, ToDeliver, ToErase, ToSend, ToSync, ToWrite}
+use Rattle.hlc_core.specs.Request.{Request, ToDeliver, ToErase, ToSend, ToSync, ToWrite}
 use Rattle.hlc_core.specs.State.{State, new_refusal, new_state}
 use Rattle.hlc_core.specs.Step.{event_for, event_with, live_after, refusal_of, refused_or, state_with}
-use Rattle.hlc_request.specs.declared.refusal.Refusal.{Refusal}
+use Rattle.hlc_core.specs.declared.refusal.Refusal.{Refusal}
 use Rattle.hlc_core.proofs.Replaying.{replay_gives_equal_history}
 use Rattle.hlc_csv.specs.Number.{node_in, number_of}
 use Rattle.hlc_csv.specs.Rows.{Fields, field_of}

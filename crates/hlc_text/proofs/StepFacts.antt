@@ -8,8 +8,8 @@ use Rattle.std.proofs.lemmas.Grind.{flat_map-append}
 use Rattle.std.proofs.lemmas.List.{get_or-map, length-map, length-take-le, map-append, take_more, take_all}
 use Rattle.std.proofs.lemmas.List.Elements.{filter_map-append}
 use Rattle.std.proofs.lemmas.Option.{slice_get-get_or, slice_get-map}
-use Rattle.hlc_request.specs.declared.step.Step.{Step}
-use Rattle.hlc_request.specs.Timed.{HaveLength, TimedRequest, requests_in, timed_request_of}
+use Rattle.hlc_core.specs.declared.step.Step.{Step}
+use Rattle.hlc_core.specs.Timed.{HaveLength, TimedRequest, requests_in, timed_request_of}
 use Rattle.hlc_csv.specs.Rows.{AddsText, Fields, text_of, text_of_row}
 use Rattle.hlc_text.specs.Steps.{printed_text, round_of, rounds_in, row_in_round, step_row}
 use Rattle.hlc_csv.proofs.RowFacts.{adds_text-joined, adds_text-more, appends-handed_out, appends-none, text_of-append, text_of-one}

@@ -8,9 +8,9 @@ use Rattle.hlc_core.specs.State.{State, is_live}
 use Rattle.hlc_core.specs.Step.{EndsMessage, IsAnswered, accept, with_lost}
 use Rattle.hlc_core.specs.declared.accepted.Accepted.{Accepted}
 use Rattle.hlc_pool.specs.declared.no_message.NoMessage.{NoMessage as NoLiveMessage}
-use Rattle.hlc_request.specs.Request.{Request}
-use Rattle.hlc_request.specs.declared.refusal.Refusal.{Refusal}
-use Rattle.hlc_request.specs.declared.refusal.Refusal.TheVariants.{NoMessage}
+use Rattle.hlc_core.specs.Request.{Request}
+use Rattle.hlc_core.specs.declared.refusal.Refusal.{Refusal}
+use Rattle.hlc_core.specs.declared.refusal.Refusal.TheVariants.{NoMessage}
 use Rattle.hlc_csv.specs.Rows.{Fields, field_of, refusal_row}
 use Rattle.hlc_text.specs.Questions.{rows_for}
 use Rattle.hlc_text.specs.Words.{refusal_word}

@@ -1,7 +1,7 @@
 -- Why a run does not begin, or ends before its script does.
 use Rattle.std.specs.Prelude.{◌≡◌, Result, Ok, Err}
-use Rattle.hlc_request.specs.declared.cluster_fault.ClusterFault.{ClusterFault}
-use Rattle.hlc_request.specs.declared.cluster_fault.ClusterFault.TheVariants as cluster
+use Rattle.hlc_core.specs.declared.cluster_fault.ClusterFault.{ClusterFault}
+use Rattle.hlc_core.specs.declared.cluster_fault.ClusterFault.TheVariants as cluster
 use Rattle.hlc_csv.specs.Fault.{records_fault_of}
 use Rattle.hlc_csv.specs.declared.end.End.{End}
 use Rattle.hlc_csv.specs.declared.end.End.TheVariants.{NoRecordLeft, PastLimit, ReadFailed}

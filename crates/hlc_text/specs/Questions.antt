@@ -5,16 +5,16 @@ use Rattle.hlc_causality.specs.ClockEvents.{ticking}
 use Rattle.hlc_arena.specs.History.{StampedEvent, causality_of, event_at, stamps_of}
 use Rattle.hlc_arena.specs.Known.{value_of}
 use Rattle.hlc_explain.specs.Findings.{node_drift}
-use Rattle.hlc_audit.specs.Snapshot.{snapshot_rows}
+use Rattle.hlc_table.specs.Snapshot.{snapshot_rows}
 use Rattle.hlc_explain.specs.declared.answers.Drift.{Drift}
-use Rattle.hlc_answers.specs.Answer.{Answer, answer_of, answer_row, drift_answer}
-use Rattle.hlc_answers.specs.EventQuestion.{Check, EventQuestion, Explain, Influenced, Relation, Tainted, Why, can_be_asked, question_word}
+use Rattle.hlc_explain.specs.Answer.{Answer, answer_of, answer_row, drift_answer}
+use Rattle.hlc_explain.specs.EventQuestion.{Check, EventQuestion, Explain, Influenced, Relation, Tainted, Why, can_be_asked, question_word}
 use Rattle.hlc_core.specs.State.{State, inbox_of}
 use Rattle.hlc_core.specs.Step.{entry_in}
 use Rattle.hlc_table.specs.Tables.{table_row, table_rows}
 use Rattle.hlc_table.specs.Rows.{Row}
 use Rattle.hlc_table.specs.declared.entry.Entry.{Entry}
-use Rattle.hlc_request.specs.declared.refusal.Refusal.TheVariants as refusal
+use Rattle.hlc_core.specs.declared.refusal.Refusal.TheVariants as refusal
 use Rattle.hlc_verdict.specs.declared.audit_fault.AuditFault.TheVariants as fault
 use Rattle.hlc_csv.specs.Number.{greatest_event}
 use Rattle.hlc_csv.specs.Rows.{Fields, refusal_row}

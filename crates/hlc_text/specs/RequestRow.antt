@@ -1,6 +1,6 @@
 -- The records that ask nodes to act.
 use Rattle.std.specs.Prelude.{ℕ, List, [], ◌∷◌, codes, decimal}
-use Rattle.hlc_request.specs.Request.{Request, ToDeliver, ToErase, ToPull, ToSend, ToSync, ToWrite}
+use Rattle.hlc_core.specs.Request.{Request, ToDeliver, ToErase, ToPull, ToSend, ToSync, ToWrite}
 use Rattle.hlc_csv.specs.Rows.{Fields}
 
 -- the word of the record that makes a request

@@ -1,7 +1,7 @@
 -- Lists of steps, one for each node, as a script.
 use Rattle.std.specs.Prelude.{ℕ, List, [], ◌∷◌, Option, filter_map, flat_map, length, option_map, slice_get}
 use Rattle.std.specs.List.{enumerate_from, range_with_len}
-use Rattle.hlc_request.specs.Timed.{TimedRequest}
+use Rattle.hlc_core.specs.Timed.{TimedRequest}
 use Rattle.hlc_csv.specs.Rows.{Fields, text_of}
 use Rattle.hlc_text.specs.RequestRow.{request_row}
 

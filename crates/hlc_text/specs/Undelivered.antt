@@ -11,9 +11,9 @@ use Rattle.hlc_core.specs.declared.accepted.Accepted.{Accepted}
 use Rattle.hlc_csv.specs.Rows.{Fields}
 use Rattle.hlc_pool.specs.declared.no_message.NoMessage.{NoMessage}
 use Rattle.hlc_csv.specs.declared.bad_record.BadRecord.{BadRecord}
-use Rattle.hlc_request.specs.Request.{Request, ToDeliver}
-use Rattle.hlc_request.specs.declared.refusal.Refusal.{Refusal}
-use Rattle.hlc_request.specs.declared.refusal.Refusal.TheVariants.{TooFarAhead}
+use Rattle.hlc_core.specs.Request.{Request, ToDeliver}
+use Rattle.hlc_core.specs.declared.refusal.Refusal.{Refusal}
+use Rattle.hlc_core.specs.declared.refusal.Refusal.TheVariants.{TooFarAhead}
 use Rattle.hlc_text.specs.Statement.{Act, Ask, Lose, Statement, statement_of}
 use Rattle.hlc_text.specs.Script.{answer_of}
 use Rattle.hlc_text.specs.declared.undelivered.Undelivered.{Undelivered}

@@ -1,7 +1,7 @@
 -- Why a record is refused, in the words of the row that tells it.
 use Rattle.std.specs.Prelude.{List, [], ℕ, codes}
-use Rattle.hlc_request.specs.declared.refusal.Refusal.{Refusal}
-use Rattle.hlc_request.specs.declared.refusal.Refusal.TheVariants as refusal
+use Rattle.hlc_core.specs.declared.refusal.Refusal.{Refusal}
+use Rattle.hlc_core.specs.declared.refusal.Refusal.TheVariants as refusal
 use Rattle.hlc_verdict.specs.declared.audit_fault.AuditFault.{AuditFault}
 use Rattle.hlc_verdict.specs.declared.audit_fault.AuditFault.TheVariants as fault
 use Rattle.hlc_explain.specs.Words.{missing_word}

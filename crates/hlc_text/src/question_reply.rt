@@ -3,8 +3,8 @@ ghost use Rattle.hlc_stamp.specs.Ids.{places_of};
 ghost use Rattle.hlc_causality.specs.ReceiveEvents.{plain_rules};
 ghost use Rattle.hlc_execution.specs.Execution.{HasLeastClockStamps};
 ghost use Rattle.hlc_arena.specs.History.{causality_of, stamps_of};
-ghost use Rattle.hlc_answers.specs.Answer.{plain_answer};
-ghost use Rattle.hlc_answers.specs.EventQuestion.{events_asked, plain_question as plain_asked};
+ghost use Rattle.hlc_explain.specs.Answer.{plain_answer};
+ghost use Rattle.hlc_explain.specs.EventQuestion.{events_asked, plain_question as plain_asked};
 ghost use Rattle.hlc_text.specs.Questions.{drift_row, inbox_row, rows_about, rows_for, told_row};
 ghost use Rattle.hlc_text.specs.Statement as asked;
 ghost use Rattle.hlc_text.specs.Statement.{plain_question};
@@ -15,12 +15,12 @@ use crate::number_row::NumberRow;
 use crate::question::Question;
 use crate::refused::{missing, refused};
 use crate::reply::Reply;
-use hlc_answers::{Answer, Drift, EventQuestion, answer_to, events_asked, question_word};
-use hlc_audit::{drift, snapshot};
 use hlc_causality::Receives;
 use hlc_core::{Cluster, Inbox, Refusal};
 use hlc_execution::Execution;
+use hlc_explain::{Answer, Drift, EventQuestion, answer_to, drift, events_asked, question_word};
 use hlc_stamp::{EventId, MAX_NODES, NodeId, Stamp};
+use hlc_table::snapshot;
 use std::alloc::{AllocError, Global};
 
 // The row of a node's inbox.

@@ -4,8 +4,9 @@ ghost use Rattle.hlc_text.specs.Reply.{rows_of_reply};
 ghost use Rattle.hlc_text.specs.Words.{audit_word, refusal_word};
 
 use crate::reply::Reply;
-use hlc_audit::{AuditFault, Missing};
 use hlc_core::Refusal;
+use hlc_explain::Missing;
+use hlc_verdict::AuditFault;
 use std::alloc::AllocError;
 
 // The word of a refusal.

@@ -1,11 +1,11 @@
 ghost use Rattle.std.specs.Prelude.{◌≡◌, OnOk};
-ghost use Rattle.hlc_request.specs.Request.{request_of_ref};
+ghost use Rattle.hlc_core.specs.Request.{request_of_ref};
 ghost use Rattle.hlc_csv.specs.Rows.{AddsRow};
 ghost use Rattle.hlc_text.specs.RequestRow.{request_row};
 
+use hlc_core::ActionRef;
 use hlc_csv::RowField::{Number, Text};
 use hlc_csv::{OutputFault, RowBuffer};
-use hlc_request::ActionRef;
 use std::io::Write;
 
 /// Adds the record of a script that asks a node, whose clock reads this, to act.

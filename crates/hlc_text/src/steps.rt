@@ -1,6 +1,6 @@
 ghost use Rattle.std.specs.Prelude.{◌≡◌, ◌<◌, ℕ, length, All, OnOk};
 ghost use Rattle.std.specs.Io.KnownBytes.{Appends};
-ghost use Rattle.hlc_request.specs.Timed.{HaveLength, requests_in, timed_request_of};
+ghost use Rattle.hlc_core.specs.Timed.{HaveLength, requests_in, timed_request_of};
 ghost use Rattle.hlc_csv.specs.Rows.{AddsRow, AddsRows};
 ghost use Rattle.hlc_text.specs.Steps.{printed_text, round_of, rounds_in, step_row};
 

@@ -1,5 +1,5 @@
 ghost use Rattle.std.specs.Prelude.{◌≡◌, OnOk};
-ghost use Rattle.hlc_request.specs.Request.{request_of_ref};
+ghost use Rattle.hlc_core.specs.Request.{request_of_ref};
 ghost use Rattle.hlc_text.specs.Undelivered.{held_back, message_in, message_lost, note_more, noted, refusal_in, undelivered_at};
 
 use hlc_core::{Accepted, ActionRef, Cluster, NoMessage, Refusal};

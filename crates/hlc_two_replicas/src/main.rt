@@ -6,8 +6,8 @@ ghost use Rattle.std.specs.Prelude.{IfOk};
 ghost use Rattle.hlc_arena.specs.ClockRule.{HasLeastStamps};
 
 use hlc_arena::Arena;
-use hlc_audit::chain;
 use hlc_core::{ActionRef, Cluster};
+use hlc_explain::chain;
 use hlc_stamp::{EventId, NodeId};
 use hlc_table::Table;
 use std::alloc::Global;

@@ -1,3 +1,4 @@
 pub mod Traces
 pub mod Honesty
 pub mod OneMoreVerdict
+pub mod OneByOne

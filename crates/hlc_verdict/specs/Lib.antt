@@ -2,3 +2,5 @@ pub mod Trace
 pub mod Verdict
 pub mod VerdictLaws
 pub mod Verdicts
+pub mod Judged
+pub mod JudgedLaws

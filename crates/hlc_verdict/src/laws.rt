@@ -3,6 +3,7 @@
 //! Each verdict looks at one claim, those of its direct predecessors and the least stamp of its place; the laws say what
 //! such verdicts tell of happened-before as a whole.
 
+ghost use Rattle.hlc_verdict.specs.JudgedLaws.{ClaimsAreJudgedOneByOne};
 ghost use Rattle.hlc_verdict.specs.VerdictLaws.{FaultlessClaimsAreLeast, HonestClaimsAreAllowed, OrderedPastIsHonest, VerdictsAreUnique, VerdictsExist};
 
 /// A claimed stamp is Low only if a clock in its past was behind or stood still: if no verdict is Behind or NotAbove
@@ -25,4 +26,10 @@ pub fn faultless_claims_are_least()
 pub fn one_verdict_each()
     ensures exists { VerdictsExist }
     ensures unique { VerdictsAreUnique }
+{}
+
+/// Whatever the claims, the verdict on each by what was kept of those directly before it is the verdict that `judge` gives on it, and the
+/// least stamp is the one that no claimed stamp has a part in.
+pub fn claims_are_judged_one_by_one()
+    ensures { ClaimsAreJudgedOneByOne }
 {}

@@ -7,6 +7,9 @@
 //! - `judge` gives one `Verdict` for each claim, or names the first claim that no trace can have.
 //! - `judge_into` does the same over the caller's own types, by `AsClaim` and `FromVerdict`.
 //! - `judge_each` makes one verdict at a time, so that a long trace needs no list of them.
+//! - `verdict_after` is the verdict on a claim that has just come in, with no list of claims at all: of each node the caller keeps the last
+//!   event, and of each message its send, as a `Judged`. So there may be as many nodes and events as the caller has memory for. The least
+//!   stamp comes from `tick` or `merge` of `hlc_stamp`, by the least stamps that were kept.
 //! - `laws` says what the verdicts tell of a trace as a whole.
 //!
 //! It reads no files: `hlc_trace` judges traces in CSV. It also doesn't say which clock was wrong first; a verdict is on one
@@ -27,6 +30,7 @@
 
 mod audit_fault;
 mod claim;
+mod judged;
 mod judging;
 pub mod laws;
 mod verdict;
@@ -34,6 +38,7 @@ mod verdicts;
 
 pub use audit_fault::AuditFault;
 pub use claim::{AsClaim, Claim, ClaimKind};
+pub use judged::{Judged, verdict_after};
 pub use judging::{judge, judge_each, judge_into};
 pub use verdict::{FromVerdict, Verdict};
 pub use verdicts::Verdicts;

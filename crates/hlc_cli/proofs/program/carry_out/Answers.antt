@@ -1,4 +1,4 @@
-use Rattle.hlc_command_fault.proofs.Faults.{if_err, if_err_is}
+use Rattle.hlc_command_line.proofs.Faults.{if_err, if_err_is}
 use Rattle.hlc_cli.proofs.Notes.{err_unnoted, has_no_note, ok_unnoted}
 use Rattle.hlc_cli.proofs.program.carry_out.Goals as goal
 

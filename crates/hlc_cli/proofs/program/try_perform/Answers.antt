@@ -1,7 +1,7 @@
 use Rattle.std.proofs.Common.{◌≡◌, ◌∙◌, Err, Ok, Result, false, inl, inr, sym, true}
 use Rattle.std.specs.Prelude.{IfOk, OnOk}
 use Rattle.clap.specs.Walk.{texts}
-use Rattle.hlc_command_fault.proofs.Faults.{if_err_is}
+use Rattle.hlc_command_line.proofs.Faults.{if_err_is}
 use Rattle.hlc_cli.specs.Program.{IsTextAsked}
 use Rattle.hlc_cli.proofs.Mistakes.{line_stop, not_two, text_asked}
 use Rattle.hlc_cli.proofs.Notes.{err_unnoted, has_no_note}

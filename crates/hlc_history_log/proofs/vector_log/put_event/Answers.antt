@@ -4,8 +4,8 @@ use Rattle.hlc_arena.specs.History.{causality_of}
 use Rattle.hlc_arena.specs.Kinds.{stamped_event_of}
 use Rattle.hlc_arena.proofs.Histories.{length_skeleton}
 use Rattle.hlc_explain.specs.Vectors.{vector_in}
-use Rattle.hlc_vector_text.specs.Plain.{if_plain}
-use Rattle.hlc_vector_text.proofs.VectorLines.{vector_is, vectors_size}
+use Rattle.hlc_explain.specs.Plain.{if_plain}
+use Rattle.hlc_explain.proofs.VectorLines.{vector_is, vectors_size}
 use Rattle.hlc_history_log.proofs.VectorTexts.{event_is_put}
 use Rattle.hlc_history_log.proofs.vector_log.put_event.Goals as goal
 

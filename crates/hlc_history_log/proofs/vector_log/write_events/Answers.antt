@@ -1,5 +1,5 @@
 use Rattle.hlc_history_log.specs.VectorText.{event_text}
-use Rattle.hlc_vector_text.proofs.Batches.{places-more}
+use Rattle.hlc_explain.proofs.Batches.{places-more}
 use Rattle.hlc_history_log.proofs.vector_log.write_events.Goals as goal
 
 pub loop-event-preserved : goal.loop-event-preserved

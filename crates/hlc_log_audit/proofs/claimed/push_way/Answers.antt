@@ -3,7 +3,7 @@ use Rattle.std.specs.Prelude.{codes, decimal}
 use Rattle.std.proofs.lemmas.List.{append-nil}
 use Rattle.std.proofs.lemmas.Result.{on_ok_weaker}
 use Rattle.hlc_causality.specs.Assignment.{pair_at}
-use Rattle.hlc_answers.specs.Answer.{Answer, answer_row, plain_answer, way_answer}
+use Rattle.hlc_explain.specs.Answer.{Answer, answer_row, plain_answer, way_answer}
 use Rattle.hlc_csv.specs.Rows.{AddsRow, Fields}
 use Rattle.hlc_ordered_log.specs.InOrder.{claimed_of, line_in, skeleton_of}
 use Rattle.hlc_ordered_log.proofs.EventsInOrder.{length-claimed_of, length-skeleton_of}

@@ -3,9 +3,9 @@ use Rattle.std.specs.Prelude.{All}
 use Rattle.std.proofs.lemmas.List.Elements.{All-replicate}
 use Rattle.hlc_causality.specs.Causality.{Skeleton}
 use Rattle.hlc_verdict.specs.declared.audit_fault.AuditFault.{AuditFault}
-use Rattle.hlc_answers.specs.Answer.{Answer, answer_of}
-use Rattle.hlc_answers.specs.EventQuestion.{can_be_asked, plain_question}
-use Rattle.hlc_answers.proofs.Found.{answer_within}
+use Rattle.hlc_explain.specs.Answer.{Answer, answer_of}
+use Rattle.hlc_explain.specs.EventQuestion.{can_be_asked, plain_question}
+use Rattle.hlc_explain.proofs.Found.{answer_within}
 use Rattle.hlc_ordered_log.specs.InOrder.{clocks_of, skeleton_of}
 use Rattle.hlc_ordered_log.proofs.EventsInOrder.{length-clocks_of, length-skeleton_of}
 use Rattle.hlc_log_audit.specs.Answers.{found_in}

@@ -1,7 +1,7 @@
 use Rattle.std.proofs.Common.{List, ℕ, subst}
 use Rattle.std.proofs.lemmas.Result.{on_ok_weaker}
-use Rattle.hlc_answers.specs.Answer.{Answer}
-use Rattle.hlc_answers.specs.EventQuestion.{plain_question}
+use Rattle.hlc_explain.specs.Answer.{Answer}
+use Rattle.hlc_explain.specs.EventQuestion.{plain_question}
 use Rattle.hlc_log_audit.specs.Answers.{TellsAnswer, found_in}
 use Rattle.hlc_log_audit.proofs.event_answer.push_about.Goals as goal
 

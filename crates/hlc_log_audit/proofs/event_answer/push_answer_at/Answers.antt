@@ -1,6 +1,6 @@
 use Rattle.std.proofs.Common.{◌∙◌, Option, subst}
 use Rattle.std.proofs.lemmas.Result.{on_ok_weaker}
-use Rattle.hlc_answers.specs.EventQuestion.{EventQuestion, plain_question, question_word}
+use Rattle.hlc_explain.specs.EventQuestion.{EventQuestion, plain_question, question_word}
 use Rattle.hlc_csv.specs.Rows.{Fields}
 use Rattle.hlc_log_audit.specs.Answers.{AnswersAt, TellsAnswer, found_in}
 use Rattle.hlc_log_audit.proofs.event_answer.push_answer_at.Goals as goal

@@ -3,8 +3,8 @@ use Rattle.std.specs.Prelude.{codes}
 use Rattle.std.proofs.lemmas.Result.{on_ok_weaker}
 use Rattle.hlc_stamp.specs.Ids.{places_of}
 use Rattle.hlc_stamp.specs.declared.id.EventId.{EventId}
-use Rattle.hlc_answers.specs.Answer.{Answer}
-use Rattle.hlc_answers.specs.EventQuestion.{Check}
+use Rattle.hlc_explain.specs.Answer.{Answer}
+use Rattle.hlc_explain.specs.EventQuestion.{Check}
 use Rattle.hlc_log_text.specs.Files.{location_text}
 use Rattle.hlc_log_audit.specs.Answers.{TellsAnswer, found_in, position_or_end}
 use Rattle.hlc_log_audit.proofs.event_answer.push_check.Goals as goal

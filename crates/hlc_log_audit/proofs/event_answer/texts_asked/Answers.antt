@@ -3,8 +3,8 @@ use Rattle.std.specs.Prelude.{All}
 use Rattle.std.proofs.lemmas.Result.{IfOk-weaker}
 use Rattle.hlc_stamp.specs.Ids.{places_of}
 use Rattle.hlc_stamp.specs.declared.id.EventId.{EventId}
-use Rattle.hlc_answers.specs.EventQuestion.{events_asked, plain_question}
-use Rattle.hlc_answers.proofs.Asked.{within_among}
+use Rattle.hlc_explain.specs.EventQuestion.{events_asked, plain_question}
+use Rattle.hlc_explain.proofs.Asked.{within_among}
 use Rattle.hlc_ordered_log.specs.InOrder.{line_in}
 use Rattle.hlc_log_text.specs.Files.{line_text}
 use Rattle.hlc_log_audit.proofs.event_answer.texts_asked.Goals as goal

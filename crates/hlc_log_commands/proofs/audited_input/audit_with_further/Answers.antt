@@ -1,4 +1,4 @@
-use Rattle.hlc_command_fault.proofs.Faults.{if_err}
+use Rattle.hlc_command_line.proofs.Faults.{if_err}
 use Rattle.hlc_log_commands.proofs.FollowingFacts.{hold_read, holds_read, if_done, on_done}
 use Rattle.hlc_log_commands.proofs.audited_input.audit_with_further.Goals as goal
 

@@ -3,8 +3,8 @@ use Rattle.std.specs.Prelude.{IfErr, IfOk, OnOk}
 use Rattle.hlc_stamp.specs.declared.limits.TheConstants.{MAX_CAPACITY}
 use Rattle.hlc_log_audit.specs.declared.outcome.Outcome.{Outcome}
 use Rattle.hlc_log_audit.specs.declared.outcome.Outcome.TheVariants.{BadLog}
-use Rattle.hlc_command_fault.specs.declared.command_fault.CommandFault.{CommandFault}
-use Rattle.hlc_command_fault.specs.Fault.{IsOfInput}
+use Rattle.hlc_command_line.specs.declared.command_fault.CommandFault.{CommandFault}
+use Rattle.hlc_command_line.specs.CommandFault.{IsOfInput}
 use Rattle.hlc_command_line.specs.declared.line_order.AuditOptions.{AuditOptions}
 use Rattle.hlc_log_commands.specs.Audited.{IsAuditedBut, LetPass}
 use Rattle.hlc_log_commands.specs.Records.{IsLengthTold, records_in}

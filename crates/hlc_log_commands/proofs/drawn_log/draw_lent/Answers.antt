@@ -1,5 +1,5 @@
 use Rattle.std.proofs.Common.{◌∙◌, List, ap}
-use Rattle.hlc_command_fault.proofs.Faults.{if_err}
+use Rattle.hlc_command_line.proofs.Faults.{if_err}
 use Rattle.hlc_log_text.specs.declared.file_mark.FileMark.{FileMark}
 use Rattle.hlc_log_commands.specs.PartLines.{part_in}
 use Rattle.hlc_log_commands.proofs.DrawnLogs.{drawn_up_to, never_of_input, on_ok, tells_no_length, told_but}

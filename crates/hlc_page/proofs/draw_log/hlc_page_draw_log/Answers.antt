@@ -1,5 +1,5 @@
 use Rattle.std.proofs.Common.{arith, inl, inr, refl}
-use Rattle.hlc_command_fault.specs.declared.command_fault.CommandFault.TheVariants as stop
+use Rattle.hlc_command_line.specs.declared.command_fault.CommandFault.TheVariants as stop
 use Rattle.hlc_log_commands.specs.DrawnLog.{IsLogDrawnBut, IsLogDrawnWhole}
 use Rattle.hlc_page.proofs.LogAnswers.{drawing_is, too_long_is}
 use Rattle.hlc_page.proofs.Statuses.{status_of_answer}

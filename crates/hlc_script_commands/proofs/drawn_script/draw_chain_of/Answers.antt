@@ -1,6 +1,6 @@
 use Rattle.std.proofs.Common.{Err, ap}
 use Rattle.hlc_diagram.specs.declared.draw_fault.DrawFault.{DrawFault}
-use Rattle.hlc_command_fault.proofs.Faults.{draw_read, draw_told, if_err_is}
+use Rattle.hlc_command_line.proofs.Faults.{draw_read, draw_told, if_err_is}
 use Rattle.hlc_script_commands.proofs.drawn_script.draw_chain_of.Goals as goal
 
 pub returns-in_err-draw_chain-clause-told : goal.returns-in_err-draw_chain-clause-told

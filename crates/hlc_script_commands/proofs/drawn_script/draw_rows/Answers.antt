@@ -3,7 +3,7 @@ use Rattle.hlc_stamp.specs.declared.id.EventId.{EventId}
 use Rattle.hlc_arena.specs.Arena.{history_of}
 use Rattle.hlc_diagram.specs.Chosen.{IsMissing}
 use Rattle.hlc_diagram.specs.declared.draw_fault.DrawFault.{DrawFault}
-use Rattle.hlc_command_fault.proofs.Faults.{draw_read, draw_told, if_err_is}
+use Rattle.hlc_command_line.proofs.Faults.{draw_read, draw_told, if_err_is}
 use Rattle.hlc_script_commands.proofs.DrawnScripts.{rows_text}
 use Rattle.hlc_script_commands.proofs.drawn_script.draw_rows.Goals as goal
 

@@ -1,6 +1,6 @@
 use Rattle.hlc_arena.specs.Arena.{history_of}
 use Rattle.hlc_script_commands.proofs.DrawnScripts.{drawn_whole, drawn_without}
-use Rattle.hlc_command_fault.proofs.Faults.{if_err_is}
+use Rattle.hlc_command_line.proofs.Faults.{if_err_is}
 use Rattle.hlc_script_commands.proofs.drawn_script.draw_script.Goals as goal
 
 pub returns-in_err-history-clause-told : goal.returns-in_err-history-clause-told

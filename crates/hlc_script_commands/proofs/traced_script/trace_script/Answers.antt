@@ -1,6 +1,6 @@
 use Rattle.std.proofs.Common.{inr}
 use Rattle.hlc_arena.specs.Arena.{history_of}
-use Rattle.hlc_command_fault.proofs.Faults.{if_err_is, output_read}
+use Rattle.hlc_command_line.proofs.Faults.{if_err_is, output_read}
 use Rattle.hlc_script_commands.proofs.traced_script.trace_script.Goals as goal
 
 pub returns-clause-done : goal.returns-clause-done

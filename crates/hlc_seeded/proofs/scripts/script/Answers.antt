@@ -1,6 +1,6 @@
 use Rattle.std.proofs.Common.{◌≡◌, ◌∙◌, ◌+◌, [], ◌∷◌, ap, arith, map, refl, rules, subst, sym}
 use Rattle.std.proofs.lemmas.List.{map-append}
-use Rattle.hlc_request.specs.Timed.{timed_request_of}
+use Rattle.hlc_core.specs.Timed.{timed_request_of}
 use Rattle.hlc_seeded.specs.Storm.{choice_for, draw_of, is_update, word_at}
 use Rattle.hlc_seeded.proofs.ScriptGrowth.{IsLatest, drawn_at, latest-stays, latest-update, on-more, script-more}
 use Rattle.hlc_seeded.proofs.Words.{on-none}

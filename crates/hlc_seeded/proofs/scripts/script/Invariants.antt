@@ -1,5 +1,5 @@
 use Rattle.std.proofs.Common.{◌≡◌, ◌*◌, map}
-use Rattle.hlc_request.specs.Timed.{timed_request_of}
+use Rattle.hlc_core.specs.Timed.{timed_request_of}
 use Rattle.hlc_seeded.specs.Storm.{draw_of, script_of, word_at}
 use Rattle.hlc_seeded.proofs.ScriptGrowth.{IsLatest}
 use Rattle.hlc_seeded.proofs.Words.{on}

@@ -1,8 +1,8 @@
 use Rattle.std.proofs.Common.{◌≡◌, ◌∙◌, ◌*◌, List, [], ◌∷◌, Vec, ap, arith, map, rules}
 use Rattle.std.specs.declared.alloc.Global.{Global}
 use Rattle.std.proofs.lemmas.List.{map-append}
-use Rattle.hlc_request.specs.declared.step.Step.{Step}
-use Rattle.hlc_request.specs.Timed.{TimedRequest, timed_request_of}
+use Rattle.hlc_core.specs.declared.step.Step.{Step}
+use Rattle.hlc_core.specs.Timed.{TimedRequest, timed_request_of}
 use Rattle.hlc_seeded.specs.Storm.{generator_of}
 use Rattle.hlc_seeded.proofs.ScriptGrowth.{on-script, scripts-more}
 use Rattle.hlc_seeded.proofs.Words.{on-none}

@@ -1,5 +1,5 @@
 use Rattle.std.proofs.Common.{◌≡◌, ◌*◌}
-use Rattle.hlc_request.specs.Timed.{requests_in}
+use Rattle.hlc_core.specs.Timed.{requests_in}
 use Rattle.hlc_seeded.specs.Storm.{generator_of, word_at}
 use Rattle.hlc_seeded.proofs.ScriptGrowth.{first_scripts}
 use Rattle.hlc_seeded.proofs.Words.{on}

@@ -1,6 +1,6 @@
 use Rattle.std.proofs.Common.{subst, sym}
 use Rattle.std.proofs.lemmas.Result.{err_from_is_err_and}
-use Rattle.hlc_request.specs.Timed.{requests_in}
+use Rattle.hlc_core.specs.Timed.{requests_in}
 use Rattle.hlc_held.specs.Agreement.{Agrees}
 use Rattle.hlc_held.specs.Seats.{log_at}
 use Rattle.hlc_shared.specs.declared.replicas.Job.{Job}

@@ -1,5 +1,5 @@
 use Rattle.std.proofs.Common.{ap, rules}
-use Rattle.hlc_request.specs.Request.{request_of}
+use Rattle.hlc_core.specs.Request.{request_of}
 use Rattle.hlc_held.specs.Seats.{NodeLog}
 use Rattle.hlc_shared.proofs.Followed.{followed_one}
 use Rattle.hlc_shared.proofs.replicas.ask.Goals as goal

@@ -1,7 +1,7 @@
 use Rattle.std.proofs.Common.{[], ◌∷◌, ◌++◌, ◌∙◌, List, ap, append_assoc, map, refl, sym}
 use Rattle.std.proofs.lemmas.Result.{err_from_is_err_and}
-use Rattle.hlc_request.specs.declared.step.Step.{Step}
-use Rattle.hlc_request.specs.Timed.{timed_request_of}
+use Rattle.hlc_core.specs.declared.step.Step.{Step}
+use Rattle.hlc_core.specs.Timed.{timed_request_of}
 use Rattle.hlc_shared.proofs.Followed.{followed_then}
 use Rattle.hlc_shared.proofs.replicas.follow.Goals as goal
 

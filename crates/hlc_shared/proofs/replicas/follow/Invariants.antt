@@ -1,5 +1,5 @@
 use Rattle.std.proofs.Common.{◌≡◌, ◌++◌, List, length, map}
-use Rattle.hlc_request.specs.Timed.{TimedRequest, timed_request_of}
+use Rattle.hlc_core.specs.Timed.{TimedRequest, timed_request_of}
 use Rattle.hlc_shared.specs.Replicas.{HasFollowed}
 use Rattle.hlc_shared.proofs.replicas.follow.Given as goal
 

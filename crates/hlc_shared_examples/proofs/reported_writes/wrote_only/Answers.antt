@@ -2,7 +2,7 @@ use Rattle.std.proofs.Common.{◌≡◌, ◌↔◌, ◌∷◌, [], IsTrue, List,
 use Rattle.std.specs.Prelude.{IfOk}
 use Rattle.std.proofs.lemmas.Grind.{common_steps}
 use Rattle.std.proofs.lemmas.Result.{IfOk-weaker}
-use Rattle.hlc_request.specs.Request.{Request, ToWrite}
+use Rattle.hlc_core.specs.Request.{Request, ToWrite}
 use Rattle.hlc_held.specs.Agreement.{Agrees, IsAnswerTo, places_of_node}
 use Rattle.hlc_held.specs.LogEntry.{DidAct, LogEntry, log_of}
 use Rattle.hlc_shared_examples.proofs.OneEntry.{agrees-one}

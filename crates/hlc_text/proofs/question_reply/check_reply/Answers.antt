@@ -1,7 +1,7 @@
 use Rattle.std.proofs.Common.{◌∙◌, [], ◌∷◌, ℕ, ap}
 use Rattle.std.proofs.lemmas.Result.{IfOk-weaker}
 use Rattle.hlc_stamp.specs.Ids.{places_of}
-use Rattle.hlc_answers.specs.EventQuestion.{Check}
+use Rattle.hlc_explain.specs.EventQuestion.{Check}
 use Rattle.hlc_text.specs.Questions.{rows_about}
 use Rattle.hlc_text.proofs.question_reply.check_reply.Goals as goal
 

@@ -2,7 +2,7 @@ use Rattle.std.proofs.Common.{◌≡◌, ◌∙◌, List, ℕ, ap}
 use Rattle.std.proofs.lemmas.Result.{IfOk-weaker}
 use Rattle.hlc_stamp.specs.Ids.{places_of}
 use Rattle.hlc_stamp.specs.declared.id.EventId.{EventId}
-use Rattle.hlc_answers.specs.EventQuestion.{events_asked, plain_question}
+use Rattle.hlc_explain.specs.EventQuestion.{events_asked, plain_question}
 use Rattle.hlc_text.specs.Questions.{rows_about}
 use Rattle.hlc_text.proofs.question_reply.events_reply.Goals as goal
 

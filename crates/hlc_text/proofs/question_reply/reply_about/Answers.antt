@@ -7,8 +7,8 @@ use Rattle.hlc_causality.proofs.TickingReceives.{all_tick}
 use Rattle.hlc_arena.proofs.Histories.{length_skeleton}
 use Rattle.hlc_verdict.specs.declared.audit_fault.AuditFault.{AuditFault}
 use Rattle.hlc_verdict.specs.declared.audit_fault.AuditFault.TheVariants.{NoEvent}
-use Rattle.hlc_answers.specs.Answer.{answer_of, plain_answer}
-use Rattle.hlc_answers.specs.EventQuestion.{can_be_asked, plain_question}
+use Rattle.hlc_explain.specs.Answer.{answer_of, plain_answer}
+use Rattle.hlc_explain.specs.EventQuestion.{can_be_asked, plain_question}
 use Rattle.hlc_text.specs.Questions.{found_in, rows_about, told_row}
 use Rattle.hlc_text.proofs.QuestionFacts.{missing-row, rows_about-missing, rows_about-there}
 use Rattle.hlc_text.proofs.question_reply.reply_about.Goals as goal

@@ -1,6 +1,6 @@
 use Rattle.std.proofs.Common.{◌≡◌, ◌∙◌, ℕ, ◌<◌, arith, subst}
 use Rattle.std.proofs.lemmas.Result.{err_from_is_err_and, on_ok_weaker}
-use Rattle.hlc_request.specs.Timed.{requests_in}
+use Rattle.hlc_core.specs.Timed.{requests_in}
 use Rattle.hlc_text.specs.Steps.{rounds_in}
 use Rattle.hlc_text.proofs.StepFacts.{has_printed-all, has_printed-more, has_printed-none, round_within}
 use Rattle.hlc_text.proofs.steps.print_steps.Goals as goal

@@ -1,5 +1,5 @@
 use Rattle.std.proofs.Common.{subst}
-use Rattle.hlc_request.specs.Request.{Request}
+use Rattle.hlc_core.specs.Request.{Request}
 use Rattle.hlc_core.specs.Step.{IsAnswered}
 use Rattle.hlc_core.proofs.cluster.Cluster.act.Goals as goal
 

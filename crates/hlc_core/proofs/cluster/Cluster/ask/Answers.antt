@@ -3,7 +3,7 @@ use Rattle.std.proofs.lemmas.Result.{err_from_is_err_and}
 use Rattle.hlc_arena.specs.History.{EventKind}
 use Rattle.hlc_core.specs.Effect.{effect_event}
 use Rattle.hlc_core.specs.Lawful.{IsLawfulNext}
-use Rattle.hlc_request.specs.Request.{request_of_ref}
+use Rattle.hlc_core.specs.Request.{request_of_ref}
 use Rattle.hlc_core.specs.Step.{PassesCommon, event_with}
 use Rattle.hlc_core.proofs.Answering.{answered_by_effect, refused_by_common, refused_by_drift_of, refused_by_own}
 use Rattle.hlc_core.proofs.Counters.{answer_counts}

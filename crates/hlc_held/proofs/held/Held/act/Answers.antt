@@ -1,9 +1,9 @@
 use Rattle.std.proofs.lemmas.Grind.{common_steps}
 use Rattle.std.proofs.Common.{◌≡◌, ◌∙◌, ◌⊎◌, ℕ, None, Some, inl, inr, ap, arith, subst}
 use Rattle.std.proofs.lemmas.Result.{err_from_is_err_and}
-use Rattle.hlc_request.specs.Request.{Request, request_of, request_of_ref}
+use Rattle.hlc_core.specs.Request.{Request, request_of, request_of_ref}
 use Rattle.hlc_core.specs.Step.{Accepts, Refuses, first_refusal, refusal_of}
-use Rattle.hlc_request.specs.declared.refusal.Refusal.TheVariants.{Memory}
+use Rattle.hlc_core.specs.declared.refusal.Refusal.TheVariants.{Memory}
 use Rattle.hlc_held.specs.Seats.{NodeLog}
 use Rattle.hlc_held.specs.StatelessRefusals.{IsDue, stateless_refusals}
 use Rattle.hlc_held.proofs.LogFacts.{act_count-pushed}

@@ -1,6 +1,6 @@
 use Rattle.std.proofs.Common.{◌≡◌, ◌∙◌, ℕ, ◌<◌, None, Option, arith, refl, subst, sym}
 use Rattle.std.proofs.lemmas.Result.{err_from_is_err_and}
-use Rattle.hlc_request.specs.Request.{request_of_ref}
+use Rattle.hlc_core.specs.Request.{request_of_ref}
 use Rattle.hlc_core.specs.State.{State}
 use Rattle.hlc_core.specs.Step.{Refuses, first_refusal}
 use Rattle.hlc_held.specs.Kept.{IsKept}

@@ -1,6 +1,6 @@
 use Rattle.std.proofs.Common.{◌∙◌, ap}
 use Rattle.std.proofs.lemmas.Result.{err_from_is_err_and, on_ok_weaker}
-use Rattle.hlc_request.specs.Request.{request_of_ref}
+use Rattle.hlc_core.specs.Request.{request_of_ref}
 use Rattle.hlc_text.specs.Undelivered.{note_more}
 use Rattle.hlc_text.proofs.SessionFacts.{held_back_is}
 use Rattle.hlc_text.proofs.session.Session.answer_request.Goals as goal

@@ -1,2 +1,0 @@
-pub mod EventQuestion
-pub mod Answer

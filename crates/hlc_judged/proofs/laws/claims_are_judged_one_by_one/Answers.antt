@@ -1,5 +1,0 @@
-use Rattle.hlc_judged.proofs.OneByOne.{claims_are_judged_one_by_one}
-use Rattle.hlc_judged.proofs.laws.claims_are_judged_one_by_one.Goals as goal
-
-pub returns : goal.returns
-returns c = claims_are_judged_one_by_one

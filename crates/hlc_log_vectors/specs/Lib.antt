@@ -1,3 +1,0 @@
-pub mod EventRow
-pub mod LogVectors
-pub mod NodeText

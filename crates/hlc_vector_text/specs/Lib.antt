@@ -1,3 +1,0 @@
-pub mod Labelled
-pub mod Plain
-pub mod VectorLine
