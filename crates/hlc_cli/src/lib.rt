@@ -15,7 +15,7 @@
 //! Status 0 says that the arguments were performed, 2 that they were mistaken, 3 that the stamps of a log are broken or over the limit, 4
 //! that the input is no log, or none with events in a strict audit, and 1 that something else failed. It opens no files: what a script, a trace or a log says comes from the reader.
 //!
-//! A first caller, proved in `hlc_program_examples`: the program within another program.
+//! A first caller, proved in `hlc_log_examples`: the program within another program.
 //!
 //! ```rust
 //! pub fn perform_arguments<R: AllocGlobal + Threads + Wait + RandomSource + Sync>(

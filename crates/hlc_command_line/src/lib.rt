@@ -16,7 +16,7 @@
 //!
 //! It carries nothing out and prints nothing: `hlc_cli` hands the order to the crates of commands.
 //!
-//! A first caller, proved in `hlc_program_examples`: the settings that a command line asks for.
+//! A first caller, proved in `hlc_log_examples`: the settings that a command line asks for.
 //!
 //! ```rust
 //! pub fn asked_settings(alloc: Global, arguments: &[&str]) -> Result<Option<Settings>, LineFault>

@@ -21,7 +21,7 @@
 //!
 //! It knows no words of scripts: `hlc_text` and `hlc_trace` do.
 //!
-//! A first caller, proved in `hlc_script_examples`: the number in the first field of a text.
+//! A first caller, proved in `hlc_examples`: the number in the first field of a text.
 //!
 //! ```rust
 //! pub fn first_number<R: Read + Drop>(

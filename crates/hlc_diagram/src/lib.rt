@@ -18,7 +18,7 @@
 //! A dot can be pointed at, and tells what is known of its event. It has no script, and shows no table of a node. `hlc_picture`
 //! draws histories.
 //!
-//! A first caller, proved in `hlc_program_examples`: a subject, drawn with the chain that forces a stamp.
+//! A first caller, proved in `hlc_log_examples`: a subject, drawn with the chain that forces a stamp.
 //!
 //! ```rust
 //! pub fn draw_subject<S: Subject>(

@@ -18,7 +18,7 @@
 //!
 //! There is no lock and no thread in it: `hlc_shared` puts a `Held` under a lock.
 //!
-//! First callers, proved in `hlc_shared_examples`: a node writes and reads through its seat, whose log has both; and a replica
+//! First callers, proved in `hlc_examples`: a node writes and reads through its seat, whose log has both; and a replica
 //! reports one write, and the history bears it out or not.
 //!
 //! ```rust

@@ -1,2 +1,3 @@
 mod AuditedHistories
 pub mod EventCount
+pub mod Settings

@@ -14,7 +14,7 @@
 //!
 //! A picture doesn't show what a node's table has.
 //!
-//! A first caller, proved in `hlc_program_examples`: a history, drawn with the chain that forces a stamp.
+//! A first caller, proved in `hlc_log_examples`: a history, drawn with the chain that forces a stamp.
 //!
 //! ```rust
 //! pub fn draw_chain(alloc: Global, history: &Arena, event: EventId) -> Result<Vec<u8>, DrawFault>

@@ -1,8 +1,8 @@
-// The callers of `hlc_program_examples` answer.
+// The callers of `hlc_log_examples` answer.
 
 use hlc_core::{ActionRef, Cluster};
+use hlc_log_examples::{asked_settings, draw_chain, draw_subject, perform_arguments};
 use hlc_picture::PicturedHistory;
-use hlc_program_examples::{asked_settings, draw_chain, draw_subject, perform_arguments};
 use hlc_stamp::{EventId, NodeId, Settings};
 
 #[test]

@@ -3,7 +3,7 @@
 use csv::ByteRecord;
 use hlc_core::{ActionRef, Cluster};
 use hlc_csv::{read_next, script_reader};
-use hlc_script_examples::{acting_node, answer_question, first_number, judge_log, run_and_export};
+use hlc_examples::{acting_node, answer_question, first_number, judge_log, run_and_export};
 use hlc_stamp::{NodeId, Settings};
 use hlc_text::Question;
 use std::alloc::Global;

@@ -1,5 +1,5 @@
 //! Tests of what no run of the program shows of scripts and traces (runs are tested by .ci/program), through the public calls of `hlc_text` and
-//! `hlc_trace`: readers and writers that fail, counts, limits of a caller, exports, lists of steps; and the callers in `hlc_script_examples`.
+//! `hlc_trace`: readers and writers that fail, counts, limits of a caller, exports, lists of steps; and the callers in `hlc_examples`.
 #![tactic(auto)]
 
 #[cfg(test)]

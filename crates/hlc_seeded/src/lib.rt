@@ -8,7 +8,7 @@
 //!
 //! It runs nothing: `hlc_shared` runs such scripts in threads, and `hlc_text` prints them.
 //!
-//! A first caller, proved in `hlc_shared_examples`: a storm, and a cluster that refuses none of its steps.
+//! A first caller, proved in `hlc_examples`: a storm, and a cluster that refuses none of its steps.
 //!
 //! ```rust
 //! pub fn make_storm(

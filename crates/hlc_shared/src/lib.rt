@@ -21,7 +21,7 @@
 //! That a thread gets the lock, or when, isn't promised, nor is any order among threads. There is no pool of threads and no
 //! queue: use `run_jobs` for a few long jobs, as replicas are.
 //!
-//! First callers, proved in `hlc_shared_examples`: two nodes write through their seats, and the history bears their logs out;
+//! First callers, proved in `hlc_examples`: two nodes write through their seats, and the history bears their logs out;
 //! and the lines of several texts, counted in a thread for each.
 //!
 //! ```rust

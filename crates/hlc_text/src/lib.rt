@@ -23,7 +23,7 @@
 //! - `Reply::push` writes a reply's rows. Until then a reply is a value, which stands for one row or more. What it says is given by the
 //!   definitions of entries, tables, chains, happened-before, paths, drift and snapshots, and not by the code that finds it.
 //!
-//! A first caller, proved in `hlc_script_examples`: what a script leaves, and a script that leaves the same history.
+//! A first caller, proved in `hlc_examples`: what a script leaves, and a script that leaves the same history.
 //!
 //! ```rust
 //! pub fn run_and_export(

@@ -3,8 +3,8 @@
 ghost use Rattle.std.specs.Prelude.{◌≡◌, None};
 
 use hlc_core::{Cluster, Step};
+use hlc_examples::{count_lines, make_storm, write_and_read, write_at_both, wrote_only};
 use hlc_held::{Group, Held};
-use hlc_shared_examples::{count_lines, make_storm, write_and_read, write_at_both, wrote_only};
 use hlc_stamp::{EventId, NodeId, Stamp};
 use std::alloc::Global;
 use std::marker::Brand;

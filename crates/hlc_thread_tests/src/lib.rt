@@ -1,5 +1,5 @@
 //! Tests of seats, replicas and seeded scripts, through the public calls of `hlc_held`, `hlc_shared` and `hlc_seeded`, and of
-//! `hlc_shared_examples`.
+//! `hlc_examples`.
 #![tactic(auto)]
 
 #[cfg(test)]

@@ -9,7 +9,7 @@
 //! If a record is no claim, or a claim is one that no trace can have, one row names the first such place, and there are no
 //! verdicts. No verdict is written before the whole trace is read. For claims that are already in memory call `hlc_verdict`.
 //!
-//! A first caller, proved in `hlc_script_examples`: a log in memory, judged.
+//! A first caller, proved in `hlc_examples`: a log in memory, judged.
 //!
 //! ```rust
 //! pub fn judge_log(alloc: Global, log: &[u8]) -> Result<Vec<u8>, RecordsFault>

@@ -3,7 +3,7 @@ use Rattle.hlc_arena.specs.Arena.{history_of}
 use Rattle.hlc_diagram.specs.Picture.{picture_text}
 use Rattle.hlc_diagram.specs.declared.view.View.{View}
 use Rattle.hlc_picture.specs.Drawn.{drawn}
-use Rattle.hlc_program_examples.proofs.chain_pictures.draw_chain.Goals as goal
+use Rattle.hlc_log_examples.proofs.chain_pictures.draw_chain.Goals as goal
 
 pub returns-clause-drawn : goal.returns-clause-drawn
 returns-clause-drawn c =

@@ -1,7 +1,7 @@
 use Rattle.std.proofs.Common.{◌*◌, ◌≤◌, ◌∙◌, ℕ, None, ap, arith}
 use Rattle.hlc_core.specs.State.{new_state}
 use Rattle.hlc_seeded.specs.Storm.{generator_of, word_at}
-use Rattle.hlc_shared_examples.proofs.seeded_storms.make_storm.Goals as goal
+use Rattle.hlc_examples.proofs.seeded_storms.make_storm.Goals as goal
 
 pub returns-clause-room : goal.returns-clause-room
 returns-clause-room c = c.in_ok-cluster.ensures.1 ∙ ap (λ (nodes : ℕ). new_state c.args.nodes (nodes * c.args.steps) None) c.from.ensures

@@ -1,2 +1,3 @@
+pub mod FirstRecords
 pub mod LineCounts
 pub mod OneEntry

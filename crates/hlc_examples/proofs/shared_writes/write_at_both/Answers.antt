@@ -3,8 +3,8 @@ use Rattle.std.proofs.lemmas.Grind.{common_steps}
 use Rattle.hlc_arena.specs.History.{StampedEvent, Written, event_at}
 use Rattle.hlc_held.specs.Agreement.{Agrees, places_of_node}
 use Rattle.hlc_held.specs.LogEntry.{LogEntry}
-use Rattle.hlc_shared_examples.proofs.OneEntry.{below_two, one_write}
-use Rattle.hlc_shared_examples.proofs.shared_writes.write_at_both.Goals as goal
+use Rattle.hlc_examples.proofs.OneEntry.{below_two, one_write}
+use Rattle.hlc_examples.proofs.shared_writes.write_at_both.Goals as goal
 
 -- the group has two nodes, and the logs that are given back are those of the seats
 pub returns-clause-agree : goal.returns-clause-agree

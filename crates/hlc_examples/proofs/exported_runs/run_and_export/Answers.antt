@@ -1,7 +1,7 @@
 use Rattle.std.proofs.Common.{◌≡◌, None, rules}
 use Rattle.hlc_stamp.specs.declared.limits.TheConstants.{MAX_RECORDS}
 use Rattle.hlc_core.specs.State.{new_refusal}
-use Rattle.hlc_script_examples.proofs.exported_runs.run_and_export.Goals as goal
+use Rattle.hlc_examples.proofs.exported_runs.run_and_export.Goals as goal
 
 pub returns-clause-replays : goal.returns-clause-replays
 returns-clause-replays c =

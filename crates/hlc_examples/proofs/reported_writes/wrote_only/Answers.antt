@@ -5,8 +5,8 @@ use Rattle.std.proofs.lemmas.Result.{IfOk-weaker}
 use Rattle.hlc_core.specs.Request.{Request, ToWrite}
 use Rattle.hlc_held.specs.Agreement.{Agrees, IsAnswerTo, places_of_node}
 use Rattle.hlc_held.specs.LogEntry.{DidAct, LogEntry, log_of}
-use Rattle.hlc_shared_examples.proofs.OneEntry.{agrees-one}
-use Rattle.hlc_shared_examples.proofs.reported_writes.wrote_only.Goals as goal
+use Rattle.hlc_examples.proofs.OneEntry.{agrees-one}
+use Rattle.hlc_examples.proofs.reported_writes.wrote_only.Goals as goal
 
 -- the log has the write alone
 pub returns : goal.returns
