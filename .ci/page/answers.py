@@ -4,6 +4,7 @@ import base64
 import json
 import re
 import xml.etree.ElementTree as tree
+from concurrent.futures import ThreadPoolExecutor
 
 from cases import CASES, cases
 from page import asked, hold, words_of
@@ -20,21 +21,22 @@ ANSWERS = {**dict.fromkeys("write erase send sync deliver pull".split(), "event"
 
 
 def try_cases(page, program, count):
-    """Random cases of each command."""
-    for command in CASES:
-        given = cases(command, count)
-        told = [got for start in range(0, count, 100) for got in page.calls(command, given[start : start + 100])]
-        bad = 0
-        for seed, ((words, _, text), (status, answer)) in enumerate(zip(given, told, strict=True)):
-            out, code, said = asked(program, words, text)
-            if command in ("draw", "trace") and code == 0 and NOTE.fullmatch(said) or command == "audit" and said == NO_EVENTS:
-                code, said = 0, ""
-            ran = out, code, "" if code == 2 else said
-            if (answer, *STATUS.get(status, (None, None))) != ran:
-                bad += 1
-                if bad == 1:
-                    print(f"{command} {seed}: {words} of {text}: the page says {status} {answer[:300]}, the program {ran[1:]} {ran[0][:300]}")
-        hold(f"{bad} of {count} cases of {command} differ", not bad)
+    """Random cases of each command. While the page answers them, the program does, on all processors."""
+    with ThreadPoolExecutor() as pool:
+        for command in CASES:
+            given = cases(command, count)
+            runs = pool.map(lambda case: asked(program, case[0], case[2]), given)
+            told = [got for start in range(0, count, 100) for got in page.calls(command, given[start : start + 100])]
+            bad = 0
+            for seed, ((words, _, text), (status, answer), (out, code, said)) in enumerate(zip(given, told, runs, strict=True)):
+                if command in ("draw", "trace") and code == 0 and NOTE.fullmatch(said) or command == "audit" and said == NO_EVENTS:
+                    code, said = 0, ""
+                ran = out, code, "" if code == 2 else said
+                if (answer, *STATUS.get(status, (None, None))) != ran:
+                    bad += 1
+                    if bad == 1:
+                        print(f"{command} {seed}: {words} of {text}: the page says {status} {answer[:300]}, the program {ran[1:]} {ran[0][:300]}")
+            hold(f"{bad} of {count} cases of {command} differ", not bad)
 
 
 def try_lines(page):
