@@ -202,6 +202,10 @@ class Store:
             return next(iter(self.inbox(asked["node"])), None)
         return asked.get("send")
 
+    def lacks_event(self, asked):
+        return max(asked["event"], asked.get("other", 0)) >= len(self.events)
+
+    # Each reason in the order in which they are looked at, with the words that it is of.
     REFUSALS = (
         ("no-node", (*EVENTS, b"inbox", b"get", b"table", b"drift", b"snapshot"), lambda self, asked: asked["node"] >= self.nodes),
         ("zero-reading", EVENTS, lambda self, asked: asked["reading"] == 0),
@@ -215,11 +219,8 @@ class Store:
         ("no-message", (b"deliver", b"lose"), lambda self, asked: asked["send"] not in self.live),
         ("wrong-node", (b"deliver",), lambda self, asked: self.events[asked["send"]].target != asked["node"]),
         ("too-far-ahead", EVENTS, is_too_far),
-        ("no-event", (b"explain", b"relation", b"influenced", b"why", b"tainted"), lambda self, asked: self.lacks_event(asked)),
+        ("no-event", (b"explain", b"relation", b"influenced", b"why", b"tainted"), lacks_event),
     )
-
-    def lacks_event(self, asked):
-        return max(asked["event"], asked.get("other", 0)) >= len(self.events)
 
     # Events
 
@@ -560,13 +561,15 @@ def main():
         parser.add_argument(f"--{name}", type=int)
     parser.add_argument("--vector", action="store_true")
     given = parser.parse_args()
+    settings = given.nodes, given.capacity, given.limit
     if given.command == "storm":
         out, said, status = storm(given.nodes, given.steps, given.seed)
     elif given.command == "judge":
         out, said, status = judge(sys.stdin.buffer.read())
+    elif given.command == "trace":
+        out, said, status = trace(sys.stdin.buffer.read(), *settings, given.vector)
     else:
-        options = {"vector": True} if given.vector else {}
-        out, said, status = globals()[given.command](sys.stdin.buffer.read(), given.nodes, given.capacity, given.limit, **options)
+        out, said, status = run(sys.stdin.buffer.read(), *settings)
     sys.stdout.buffer.write(out)
     sys.stderr.buffer.write(said)
     sys.exit(status)

@@ -15,12 +15,13 @@ MESSAGES = {b"write": 2, b"send": 8, b"sync": 1, b"deliver": 4, b"pull": 5, b"lo
 TABLES = {b"write": 5, b"erase": 3, b"send": 3, b"sync": 6, b"deliver": 9, b"pull": 3, b"lose": 1, b"get": 1}
 
 # Fields that are no numbers, or only just, and words that are none.
-ODD_NUMBERS = [b"", b"x", b"+1", b"-1", b" 1", b"1 ", b"1.0", b"0x1", b"1e1", b"0" * 21, b"0" * 20 + b"1", b"%d" % 2**64, b"9" * 20, b"9" * 21, b"\xd9\xa1"]
+ODD_NUMBERS = [b"", b"x", b"+1", b"-1", b" 1", b"1 ", b"1.0", b"0x1", b"1e1", b"\xd9\xa1", b"%d" % 2**64]
+ODD_NUMBERS += [b"0" * 21, b"0" * 20 + b"1", b"9" * 20, b"9" * 21]
 ODD_WORDS = [b"", b"Write", b" write", b"write ", b"wri", b"writes", b"local", b"receive", b"event", b"sync\n", b"inbox\x00", b"-", b"0"]
 # Whole numbers that are no node of any cluster, and no event of any history.
 NO_NODES = [65535, 65536, 70000, 2**31, 2**32, model.MOST_NUMBER]
 NO_EVENTS = [model.FULL - 1, model.FULL, model.FULL + 1, model.MOST_READING, model.MOST_NUMBER]
-ODD_KEYS = [b",", b'"', b'a,"b"', b"two\nlines", b"\r", b" ", b"\xff\x00", b"refused", b"\\x41", "ключ".encode(), b"k" * 22, b"k" * 23, b"k" * 256]
+ODD_KEYS = [b",", b'"', b'a,"b"', b"two\nlines", b"\r", b" ", b"\xff\x00", b"\x7f", b"~\x80", b"refused", b"\\x41", "ключ".encode(), b"k" * 22, b"k" * 23, b"k" * 256]
 BAD_KEYS = [b"", b"k" * 257]
 
 # Text
@@ -130,7 +131,7 @@ class Drawn:
 
     def key(self, word, node):
         if "key" in self.wrong:
-            return self.rng.choice(BAD_KEYS)
+            return self.rng.choice([*BAD_KEYS, *[b"unknown"] * len(BAD_KEYS)])
         known = [*self.store.table(self.store.at[node])] if word == b"send" and node < self.store.nodes and self.rng.random() < 0.9 else []
         return self.rng.choice(known or self.keys)
 
@@ -174,11 +175,12 @@ class Drawn:
             [max(chain[0] - 1, 0), *chain],
             chain[::-1],
             self.other_way(event, len(chain)),
+            self.other_way(event, place + 1),
         ]
         return self.rng.choice(changed)
 
     def other_way(self, event, length):
-        """As many events as a chain has, along any direct predecessors."""
+        """So many events, if there are, along any direct predecessors."""
         way = [event]
         while len(way) < length and self.store.events[way[0]].predecessors():
             way.insert(0, self.rng.choice(self.store.events[way[0]].predecessors()))
@@ -197,7 +199,7 @@ class Drawn:
         """A record of a word, by chance with one to three wrong fields."""
         names = model.WORDS[word]
         is_broken = self.rng.random() < self.broken
-        self.wrong = self.rng.sample(names, min(self.rng.choice((1, 1, 2, 3)), len(names))) if is_broken else ()
+        self.wrong = self.rng.sample(names, min(self.rng.choice((1, 2, 2, 3)), len(names))) if is_broken else ()
         node, event = self.node(word), self.event("event")
         found = {"node": node, "event": event, "other": self.event("other"), "checked": self.event("checked"), "value": self.value()}
         found |= {"key": self.key(word, node), "reading": self.reading(node), "target": self.target(node), "send": self.send(word, node)}
@@ -229,9 +231,10 @@ class Drawn:
         return fields
 
     def start(self):
-        """A write at every node."""
+        """A write at every node, or by chance an erasure."""
         for node in range(self.store.nodes):
-            self.ask([b"write", b"%d" % node, b"%d" % self.readings(self.rng, node, node), self.rng.choice(self.keys), b"v"])
+            word, *value = self.rng.choice(([b"write", b"v%d" % node], [b"write", b""], [b"erase"]))
+            self.ask([word, b"%d" % node, b"%d" % self.readings(self.rng, node, node), self.rng.choice(self.keys), *value])
 
     def show(self, *words):
         """Asks these words of every node, in turn."""
@@ -246,12 +249,12 @@ def size(rng):
 
 def keys(rng):
     plain = [b"k%d" % number for number in range(rng.choice((1, 2, 4, 4, 12)))]
-    return plain + rng.sample(ODD_KEYS, 2) if rng.random() < 0.2 else plain
+    return plain + rng.sample(ODD_KEYS, 3) if rng.random() < 0.3 else plain
 
 
 def drawn(rng, count, nodes=None, room=2.0, limit=None, readings=None, broken=0.0):
     """A script with nothing yet, and room for so many times this count of events."""
-    nodes = nodes or rng.choice((2, 2, 3, 3, 4, 5, 9, 64))
+    nodes = nodes or rng.choice((2, 2, 3, 3, 3, 4, 4, 5, 5, 9, 20, 64))
     return Drawn(rng, nodes, max(int(count * room), 1), limit, readings or rng.choice(READINGS), keys(rng), broken)
 
 
@@ -317,7 +320,7 @@ def relations(rng):
 def explanations(rng):
     """Events of few readings, or of clocks that jumped, and why each stamp is as it is."""
     count = rng.choice((10, 25, 50))
-    script = drawn(rng, count, readings=rng.choice((still, tied, tied, skewed, jumping)))
+    script = drawn(rng, count, nodes=rng.choice((2, 3, 4, 5)), readings=rng.choice((still, tied, tied, skewed, jumping)))
     script.start()
     for _ in range(count):
         script.draw({b"write": 3, b"send": 4, b"sync": 1, b"deliver": 6, b"pull": 2})
@@ -342,10 +345,13 @@ def limits(rng):
 def refusals(rng):
     """Requests with several faults each, before and after the history is full."""
     count = rng.choice((25, 50))
-    limit = rng.choice((None, 0, 5))
-    script = drawn(rng, count, nodes=rng.choice((2, 3)), room=rng.choice((0.1, 0.3)), limit=limit, broken=rng.choice((0.3, 0.5, 0.8)))
+    script = drawn(rng, count, nodes=rng.choice((2, 3)), room=rng.choice((0.2, 0.4)), limit=rng.choice((None, 0, 5)))
+    script.start()
+    script.broken = rng.choice((0.3, 0.5, 0.8))
     for _ in range(count):
-        script.draw(ACTS | {b"lose": 4} | SHOWS | TELLS)
+        script.draw(ACTS | {b"lose": 2})
+    for _ in range(count // 3):
+        script.draw(SHOWS | TELLS)
     return script.script()
 
 
@@ -356,6 +362,22 @@ def malformed(rng):
     for _ in range(count):
         fields = script.fields(rng.choice([*model.WORDS]))
         script.ask(script.spoil(fields) if rng.random() < 0.4 else fields)
+    return script.script()
+
+
+def ties(rng):
+    """Rounds in which all nodes read the same, and write and erase a few keys without knowing of each other, so that many ranks differ by their nodes alone.
+    Between the rounds entries are passed on, and all tables are shown."""
+    script = drawn(rng, 60, nodes=rng.choice((2, 3, 4)))
+    script.keys = script.keys[:2]
+    for start in range(100, 100 * rng.randrange(2, 5), 100):
+        script.readings = lambda rng, step, node: start
+        for _ in range(rng.randrange(2, 4)):
+            script.start()
+        for _ in range(rng.randrange(4, 12)):
+            script.draw({b"erase": 1, b"send": 3, b"sync": 2, b"deliver": 5, b"pull": 2})
+        script.show(b"table")
+        script.draw({b"snapshot": 1})
     return script.script()
 
 
@@ -373,7 +395,7 @@ def tables(rng):
     return script.script()
 
 
-KINDS = (mixed, mixed, mixed, storms, inboxes, relations, explanations, limits, refusals, malformed, tables)
+KINDS = (mixed, mixed, storms, inboxes, relations, explanations, limits, refusals, malformed, ties, tables)
 
 
 def script(rng, kind):
@@ -411,8 +433,9 @@ def claim(rng, event, last, wrong):
     """The record of a trace that claims an event of a history, if the last stamp claimed at its node is that; and the stamp that it claims."""
     l, c = event.stamp
     if rng.random() < wrong:
-        l, c = rng.choice(((l, c + 1), (l + 1, 0), (l, max(c - 1, 0)), (l - 1, c), (event.reading, 0), (event.reading - 1, c), last, (last[0], last[1] + 1), (l, model.FULL)))
-    word = b"send" if event.word == b"send" else b"sync" if event.word == b"sync" else b"receive" if event.sent is not None else rng.choice((b"local", b"send"))
+        near = (l, c + 1), (l + 1, 0), (l, max(c - 1, 0)), (l - 1, c), (l, model.FULL)
+        l, c = rng.choice((*near, (event.reading, 0), (event.reading - 1, c), last, (last[0], last[1] + 1)))
+    word = event.word if event.carried else b"receive" if event.sent is not None else rng.choice((b"local", b"send"))
     sent = [event.sent] if word == b"receive" else []
     return [word, *(whole(rng, number) for number in (event.node, event.reading, *sent, l, c))], (l, c)
 
@@ -430,7 +453,7 @@ def spoilt(rng, fields):
     if choice == 3:
         return fields[:-1] + [b"%d" % rng.choice((model.FULL + 1, model.MOST_NUMBER))]
     if choice == 4:
-        return [fields[0], rng.choice((b"63", b"64", b"65536", b"%d" % model.MOST_NUMBER)), *fields[2:]]
+        return [fields[0], rng.choice((b"63", b"64", b"64", b"65536", b"%d" % model.MOST_NUMBER)), *fields[2:]]
     return fields[:2] + [rng.choice((b"0", b"%d" % model.MOST_READING, b"%d" % (model.MOST_READING + 1)))] + fields[3:]
 
 
@@ -445,7 +468,8 @@ def trace(rng):
     for event in script.store.events:
         fields, last[event.node] = claim(rng, event, last.get(event.node, (0, 0)), wrong)
         if fields[0] == b"receive" and rng.random() < faults:
-            # Of an event that may be no send, or one of the same node, or a later one.
-            fields[3] = b"%d" % rng.choice((rng.randrange(len(script.store.events) + 2), model.FULL + 1))
-        records.append(spoilt(rng, fields) if rng.random() < faults else fields)
+            # Of a send of the same node, of an event that may be no send, or of a later one.
+            own = [other.number for other in script.store.at[event.node] if other.carried and other.number < event.number]
+            fields[3] = b"%d" % rng.choice((*own[:3], rng.randrange(len(script.store.events) + 2), model.FULL + 1))
+        records.append(spoilt(rng, fields) if rng.random() < faults / 2 else fields)
     return records
