@@ -1,16 +1,14 @@
 // The first callers that the docs of the crates for logs show.
 
-use crate::audits::BROKEN;
-use hlc_causality::Receives;
+use crate::log_records::PAIRS;
 use hlc_causes::laws::no_events_are_least;
 use hlc_causes::{Cause, push_least};
 use hlc_execution::Execution;
 use hlc_log::{Log, LogEvent, LogKind, MessageId};
-use hlc_log_audit::AuditRules;
+use hlc_log_audit::Outcome;
 use hlc_log_examples::{
     audit_log, count_events, first_cause, messages_of, order_message, stamp_of_field,
 };
-use hlc_log_text::{FaultRule, LogRules, RecordSyntax, StampForm};
 use hlc_ordered_log::MessageCounts;
 use hlc_stamp::{EventId, NodeId, Stamp};
 use std::alloc::Global;
@@ -106,23 +104,10 @@ fn the_first_cause_is_found(rt: HostRuntime) {
 
 #[test]
 fn a_log_in_memory_is_audited(rt: HostRuntime) {
-    let rules = AuditRules {
-        records: LogRules {
-            syntax: RecordSyntax::Csv,
-            form: StampForm::Pair,
-            units: None,
-            tolerance: 0,
-            receives: Receives::Tick,
-            unsent_local: false,
-            resent: None,
-            faults: FaultRule::First,
-        },
-        limit: None,
-        report: false,
-    };
-    let audited = audit_log(rt.alloc(), b"local,a,10,9,0\n", rules);
+    let audited = audit_log(rt.alloc(), b"local,a,10,9,0\n", PAIRS);
     let (outcome, rows) = audited.expect(&rt, "an outcome");
     let want = "count,behind,1\ncause,1,a,behind\nnode,a,1,0,1,1\nmessages,0,0,0,0\n";
-    assert!(rt; outcome == BROKEN, "{outcome:?}");
+    let broken = Outcome::Broken { over_limit: false };
+    assert!(rt; outcome == broken, "{outcome:?}");
     assert!(rt; rows.as_slice() == want.as_bytes(), "not {want}");
 }
