@@ -142,6 +142,18 @@ def sent_again():
     yield "61 messages sent again, first", "audit --resent first", log, rows
 
 
+def long_logs():
+    """Logs with names at their limit and past it, a long label, and more blank lines than one read gives."""
+    name, label = "a" * 256, "label " * 1_000
+    known, longer = f"local,{name},1,1,0\n", f"local,a{name},1,1,0\n"
+    yield "a name of 256 bytes", "audit --strict", known, f"count,least,1\nnode,{name},1,0,1,1\nmessages,0,0,0,0\n"
+    yield "a name of 257 bytes", "audit", known + longer, "bad,2,name,node\n", "hlc: bad log\n", 4
+    yield "a long label", "audit --ask event,1", f"local,a,1,1,0,{label}\n", f"event,1,a,1,1,0,1,0,least,{label}\n"
+    log = "\ufefflocal,a,1,1,0\n" + "\r\n\n\n" * 4_000 + "local,a,2,2,0\r\nlocal,a,3,3,0\r\n"
+    rows = "event,1,a,1,1,0,1,0,least\nevent,12002,a,2,2,0,2,0,least\nevent,12003,a,3,3,0,3,0,least\n"
+    yield "lines after many blank ones", "audit --ask event,1 --ask event,12002 --ask event,12003", log, rows
+
+
 def as_many_as_may_be():
     """As many records as a text may have, and one more: a script is answered up to it, and of a trace there is no verdict, nor anything of a log."""
     too_long = "hlc: too many records\n", 1
@@ -158,6 +170,6 @@ def as_many_as_may_be():
 
 def runs():
     """All of them. Most end well, and tell of no error."""
-    for made in at_limits, prefixes, digits, long_records, many_rows, sent_again, as_many_as_may_be:
+    for made in at_limits, prefixes, digits, long_records, many_rows, sent_again, long_logs, as_many_as_may_be:
         for what, words, given, output, *end in made():
             yield what, words, given, output, *(end or ("", 0))

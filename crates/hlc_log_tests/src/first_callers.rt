@@ -1,18 +1,20 @@
 // The first callers that the docs of the crates for logs show.
 
-use crate::audits::BROKEN;
-use hlc_causality::Receives;
+ghost use Rattle.hlc_log.specs.Events.{IsSmallCarried};
+
+use crate::log_records::PAIRS;
 use hlc_causes::laws::no_events_are_least;
 use hlc_causes::{Cause, push_least};
 use hlc_execution::Execution;
 use hlc_log::{Log, LogEvent, LogKind, MessageId};
-use hlc_log_audit::AuditRules;
+use hlc_log_audit::Outcome;
 use hlc_log_examples::{
-    audit_log, count_events, first_cause, messages_of, order_message, stamp_of_field,
+    audit_log, count_events, first_cause, messages_of, order_message, stamp_of_field, watch_event,
 };
-use hlc_log_text::{FaultRule, LogRules, RecordSyntax, StampForm};
+use hlc_log_text::NameKey;
 use hlc_ordered_log::MessageCounts;
 use hlc_stamp::{EventId, NodeId, Stamp};
+use hlc_watch::Watch;
 use std::alloc::Global;
 use std::process::Abort;
 
@@ -106,23 +108,39 @@ fn the_first_cause_is_found(rt: HostRuntime) {
 
 #[test]
 fn a_log_in_memory_is_audited(rt: HostRuntime) {
-    let rules = AuditRules {
-        records: LogRules {
-            syntax: RecordSyntax::Csv,
-            form: StampForm::Pair,
-            units: None,
-            tolerance: 0,
-            receives: Receives::Tick,
-            unsent_local: false,
-            resent: None,
-            faults: FaultRule::First,
-        },
-        limit: None,
-        report: false,
-    };
-    let audited = audit_log(rt.alloc(), b"local,a,10,9,0\n", rules);
+    let audited = audit_log(rt.alloc(), b"local,a,10,9,0\n", PAIRS);
     let (outcome, rows) = audited.expect(&rt, "an outcome");
     let want = "count,behind,1\ncause,1,a,behind\nnode,a,1,0,1,1\nmessages,0,0,0,0\n";
-    assert!(rt; outcome == BROKEN, "{outcome:?}");
+    let broken = Outcome::Broken { over_limit: false };
+    assert!(rt; outcome == broken, "{outcome:?}");
     assert!(rt; rows.as_slice() == want.as_bytes(), "not {want}");
+}
+
+// An event of node 0 that reads 5.
+fn event(line: u32, kind: LogKind, l: u64) -> LogEvent
+    ensures { IsSmallCarried result.carried }
+{
+    LogEvent {
+        node: NodeId(0),
+        reading: 5,
+        has_reading: true,
+        kind,
+        stamp: Stamp { l, c: 0 },
+        has_stamp: true,
+        carried: None,
+        seq: 0,
+        line,
+    }
+}
+
+#[test]
+fn a_receive_waits_for_its_send(rt: HostRuntime) {
+    let alloc = rt.alloc();
+    let mut watch = Watch::new(alloc, 10, NameKey::fixed()).expect(&rt, "room");
+    let local = event(1, LogKind::Local, 5);
+    let told = watch_event(alloc, &mut watch, &local, b"").expect(&rt, "room");
+    assert!(&rt; told.is_some_and(|causes| causes.ahead.is_none() && !causes.behind));
+    let receive = event(2, LogKind::Receive(MessageId(7)), 8);
+    let waits = watch_event(alloc, &mut watch, &receive, b"m").expect(&rt, "room");
+    assert!(&rt; waits.is_none() && watch.waiting() == 1);
 }

@@ -1,11 +1,10 @@
-// The lines on which the records of a log begin, which no clause says, and how names are numbered.
+// The lines on which the records of a log begin that is read a byte at a time, which no clause says, and how names are numbered.
 
-use crate::log_texts::log_of;
 use crate::slow::Slow;
 use hlc_log::{LogKind, MessageId};
 use hlc_log_text::{LogRules, LogText, NameKey, Names, StampForm, read_log};
 use hlc_stamp::{EventId, NodeId};
-use std::alloc::{AllocError, Global};
+use std::alloc::Global;
 use std::process::Abort;
 
 // Logs, with the lines on which their events begin.
@@ -37,62 +36,31 @@ static LINES: [(&[u8], &[u32]); 6] = [
     ),
 ];
 
-fn expect_lines(rt: &impl Abort, text: &LogText, lines: &[u32]) {
+// Reads a log a byte at a time. Callers end with `drop`: it is checked much faster than a drop at the end of a scope.
+fn slow_log_of(rt: &impl Abort, alloc: Global, bytes: &[u8]) -> LogText {
+    let slow = Slow {
+        bytes,
+        fails: false,
+    };
+    let rules = LogRules::exact(StampForm::Pair);
+    read_log(alloc, slow, rules, 16, NameKey::fixed()).expect(rt, "a log")
+}
+
+fn expect_lines(rt: &impl Abort, alloc: Global, bytes: &[u8], lines: &[u32]) {
+    let text = slow_log_of(rt, alloc, bytes);
     assert!(rt; text.log().len() as usize == lines.len());
     for (place, line) in (0..text.log().len()).zip(lines) {
         let event = text.log().get(EventId(place)).expect(rt, "an event");
         assert!(rt; event.line == *line, "{place}: not {line}");
     }
-}
-
-// Reads a log in one read.
-fn expect_read(rt: &impl Abort, alloc: Global, bytes: &[u8], lines: &[u32]) {
-    let text = log_of(rt, alloc, bytes);
-    expect_lines(rt, &text, lines);
-    drop(text);
-}
-
-// Reads a log a byte at a time.
-fn expect_read_slowly(rt: &impl Abort, alloc: Global, bytes: &[u8], lines: &[u32]) {
-    let slow = Slow {
-        bytes,
-        fails: false,
-    };
-    let text = read_log(
-        alloc,
-        slow,
-        LogRules::exact(StampForm::Pair),
-        16,
-        NameKey::fixed(),
-    )
-    .expect(rt, "a log");
-    expect_lines(rt, &text, lines);
     drop(text);
 }
 
 #[test]
 fn records_begin_on_their_lines(rt: HostRuntime) {
     for (bytes, lines) in &LINES {
-        expect_read(&rt, rt.alloc(), bytes, lines);
-        expect_read_slowly(&rt, rt.alloc(), bytes, lines);
+        expect_lines(&rt, rt.alloc(), bytes, lines);
     }
-}
-
-// A byte order mark, and more text than one read gives.
-fn long_text(alloc: Global) -> Result<Vec<u8>, AllocError> {
-    let mut text = Vec::new(alloc);
-    text.extend_from_slice(b"\xef\xbb\xbflocal,a,1,1,0\n")?;
-    for _ in 0..4_000 {
-        text.extend_from_slice(b"\r\n\n\n")?;
-    }
-    text.extend_from_slice(b"local,a,2,2,0\r\nlocal,a,3,3,0\r\n")?;
-    Ok(text)
-}
-
-#[test]
-fn lines_are_counted_from_read_to_read(rt: HostRuntime) {
-    let text = long_text(rt.alloc()).expect(&rt, "memory");
-    expect_read(&rt, rt.alloc(), &text, &[1, 12_002, 12_003]);
 }
 
 fn expect_name(rt: &impl Abort, names: &Names, number: usize, name: &[u8]) {
@@ -111,7 +79,7 @@ fn expect_names(rt: &impl Abort, text: &LogText) {
 #[test]
 fn names_are_numbered(rt: HostRuntime) {
     let text = b"send,b,1,1,0,m,label\nreceive,\"a\r\nb\",2,2,0,n\nreceive,b,3,3,0,m\n";
-    let text = log_of(&rt, rt.alloc(), text);
+    let text = slow_log_of(&rt, rt.alloc(), text);
     expect_names(&rt, &text);
     drop(text);
 }
