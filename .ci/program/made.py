@@ -164,12 +164,19 @@ def as_many_as_may_be():
     rows = "verdict,0,least\n" + "".join(f"verdict,{place},not-above,{place - 1}\n" for place in range(1, MOST))
     yield "as many claims as may be", JUDGE, claim * MOST, rows
     yield "one claim more", JUDGE, claim * (MOST + 1), "", *too_long
-    for words in "audit", "vectors":
+    for words in "audit", "vectors", "draw-log":
         yield f"one record more, {words}", f"{words} --jsonl", record * (MOST_OF_LOG + 1), "", f"hlc: too many records: a log has at most {MOST_OF_LOG}\n", 1
+
+
+def forgotten():
+    """A watch that remembers a million messages: a receive of the first of them shows how far clocks are apart, and one of the message before waits."""
+    sends = "".join(f"send,a,{at},{at},0,m{at}\n" for at in range(11, 1_000_012))
+    rows = "node,a,1000001,0,1\nnode,b,2,11,1000003\nmessages,1000001,2\nwaiting,1\nforgotten,0\nleft-out,0\nskew,a,b,2,2,1000002\n"
+    yield "a message too many to remember", "watch", sends + "receive,b,10,12,1,m12\nreceive,b,1,12,2,m11\n", rows
 
 
 def runs():
     """All of them. Most end well, and tell of no error."""
-    for made in at_limits, prefixes, digits, long_records, many_rows, sent_again, long_logs, as_many_as_may_be:
+    for made in at_limits, prefixes, digits, long_records, many_rows, sent_again, long_logs, as_many_as_may_be, forgotten:
         for what, words, given, output, *end in made():
             yield what, words, given, output, *(end or ("", 0))

@@ -4,6 +4,7 @@
 // REFUSE_HOW     refused: null and ENOMEM; -1 and EIO; or EAGAIN for a thread
 //                interrupted: -1 and EINTR, for reads and writes
 //                short: one byte is read or written
+//                cut: -1 and EIO, for reads and writes; the others of that kind read or write one byte each
 //                unread: the signal SIGPIPE, -1 and EPIPE, for writes
 // REFUSE_FIRST   the first call that is refused, from 1; REFUSE_LAST the last
 // REFUSE_COUNTS  a file of 64-bit numbers, which get how many calls of each kind there were, how many were refused, and how
@@ -26,10 +27,10 @@
 #include <unistd.h>
 
 enum kind { MEMORY, READ, OUTPUT, ERRORS, THREAD, KINDS };
-enum way { REFUSED, INTERRUPTED, SHORT, UNREAD, WAYS };
+enum way { REFUSED, INTERRUPTED, SHORT, CUT, UNREAD, WAYS };
 
 static const char *const kinds[] = {"memory", "read", "output", "errors", "thread"};
-static const char *const ways[] = {"refused", "interrupted", "short", "unread"};
+static const char *const ways[] = {"refused", "interrupted", "short", "cut", "unread"};
 
 // How many calls there were of each kind, how many were refused, and how many bytes were read. Null until the program starts.
 static _Atomic unsigned long *counts;
@@ -106,16 +107,15 @@ int posix_memalign(void **to, size_t align, size_t size) {
 
 // Reads or writes: all that was asked for, one byte, or nothing.
 static ssize_t transfer(enum kind asked, long call, int file, const void *bytes, size_t size) {
-    if (refused(asked)) {
-        if (way == UNREAD)
-            raise(SIGPIPE);
-        if (way != SHORT) {
-            errno = way == UNREAD ? EPIPE : way == INTERRUPTED ? EINTR : EIO;
-            return -1;
-        }
-        size = size > 1 ? 1 : size;
+    bool is_refused = refused(asked);
+    if (is_refused && way == UNREAD)
+        raise(SIGPIPE);
+    if (is_refused && way != SHORT) {
+        errno = way == UNREAD ? EPIPE : way == INTERRUPTED ? EINTR : EIO;
+        return -1;
     }
-    return syscall(call, file, bytes, size);
+    bool is_short = is_refused || (counts && way == CUT && (int)asked == kind);
+    return syscall(call, file, bytes, is_short && size > 1 ? 1 : size);
 }
 
 ssize_t read(int file, void *bytes, size_t size) {

@@ -1,27 +1,12 @@
-// Outputs that fail only where they are flushed: a line says so, and the status is 1. And errors that nothing takes.
+// Outputs that fail only where they are flushed, as that of the program never does: a line says so, and the status is 1.
 
 use crate::comparisons::{arguments, expect_at};
+use crate::streams::Unflushed;
 use hlc_cli::{Ended, perform};
-use std::io;
-use std::io::{Read, Write};
 use std::process::Abort;
 use std::random::RandomSource;
 use std::sync::Wait;
 use std::thread::Threads;
-
-// A writer that takes everything, and can't hand it on.
-#[derive(Drop)]
-struct Unflushed;
-
-impl Write for Unflushed {
-    fn write(&mut self, buf: &[u8]) -> io::Result<usize> {
-        Ok(buf.len())
-    }
-
-    fn flush(&mut self) -> io::Result<()> {
-        Err(io::Error::from(io::ErrorKind::Other))
-    }
-}
 
 // Lines, and what they read: each command writes something.
 static LINES: [(&str, &str); 13] = [
@@ -67,45 +52,5 @@ fn expect_unflushed<R: AllocGlobal + Threads + Wait + Abort + RandomSource + Syn
 fn tells_that_an_output_was_not_flushed(rt: HostRuntime) {
     for (line, input) in &LINES {
         expect_unflushed(&rt, line, input.as_bytes());
-    }
-}
-
-// A reader that gives nothing, and a writer that takes nothing.
-#[derive(Drop)]
-struct Broken;
-
-impl Read for Broken {
-    fn read(&mut self, _buf: &mut [u8]) -> io::Result<usize> {
-        Err(io::Error::from(io::ErrorKind::Other))
-    }
-}
-
-impl Write for Broken {
-    fn write(&mut self, _buf: &[u8]) -> io::Result<usize> {
-        Err(io::Error::from(io::ErrorKind::Other))
-    }
-
-    fn flush(&mut self) -> io::Result<()> {
-        Ok(())
-    }
-}
-
-// Lines whose faults can't be told, with their statuses.
-static UNTOLD: [(&str, u8); 3] = [
-    ("hlc run --nodes 2 --capacity 16", 1),
-    ("hlc draw --nodes 2 --capacity 16", 1),
-    ("hlc run --nodes 1 --capacity 16", 2),
-];
-
-#[test]
-fn ends_in_faults_that_cannot_be_told(rt: HostRuntime) {
-    for (line, status) in &UNTOLD {
-        let arguments = arguments(&rt, rt.alloc(), line);
-        let found = perform(&rt, arguments.as_slice(), Broken, &mut Broken, &mut Broken);
-        let untold = Ended {
-            status: *status,
-            told: false,
-        };
-        expect_at(&rt, line, found, untold);
     }
 }

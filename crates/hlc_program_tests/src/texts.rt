@@ -1,9 +1,10 @@
-// The text of each public fault, and bytes as `Debug` shows them.
+// The texts of faults in which no run of the program ends that can be brought about, and bytes as `Debug` shows them.
 
 use crate::comparisons::expect_at;
+use clap::error::ErrorKind;
 use hlc_arena::ReserveFault;
-use hlc_cli::{CommandFault, Fault};
-use hlc_command_line::{LineFault, PartMistake, RecordsMistake};
+use hlc_cli::{CommandFault, Ended, Fault, report};
+use hlc_command_line::{LineFault, order};
 use hlc_core::{ClusterFault, Refusal};
 use hlc_csv::{OutputFault, RecordsFault};
 use hlc_pages::{Bytes, INLINE_LEN};
@@ -12,6 +13,7 @@ use hlc_pool::NoMessage;
 use hlc_seeded::StormFault;
 use hlc_shared::{LogFault, SharedFault};
 use hlc_stamp::NodeId;
+use hlc_text::TextFault;
 use hlc_verdict::AuditFault;
 use std::alloc::Global;
 use std::fmt::Display;
@@ -93,30 +95,15 @@ static RECORDS_FAULTS: [(RecordsFault, &str); 4] = [
     (RecordsFault::Memory, "out of memory"),
 ];
 
-static COMMAND_FAULTS: [(CommandFault, &str); 14] = [
-    (CommandFault::NoEvent, "no such event"),
-    (CommandFault::BadLog, "bad log"),
-    (CommandFault::EmptyLog, "no events"),
-    (CommandFault::BrokenStamps, "broken stamps"),
-    (CommandFault::OverLimit, "over the limit"),
-    (CommandFault::Settings, "bad settings"),
-    (CommandFault::Mismatch(NodeId(3)), "log mismatch at node 3"),
-    (CommandFault::GateShut(NodeId(63)), "gate shut at node 63"),
+static TEXT_FAULTS: [(TextFault, &str); 5] = [
+    (TextFault::Records(RecordsFault::Read), "reading failed"),
+    (TextFault::Records(RecordsFault::Write), "writing failed"),
     (
-        CommandFault::LogTooLong { most: 16777216 },
-        "too many records: a log has at most 16777216",
-    ),
-    (
-        CommandFault::NoQuestion { line: 10000000 },
-        "line 10000000 below `==> questions <==` asks nothing; a question of a log is explain,LINE, check,LINE,LINE.., relation,LINE,LINE, influenced,LINE, drift,NODE, claimed,LINE, event,LINE, why,LINE,LINE, tainted,LINE or first,NODE,RULE",
-    ),
-    (CommandFault::Records(RecordsFault::Read), "reading failed"),
-    (CommandFault::Records(RecordsFault::Write), "writing failed"),
-    (
-        CommandFault::Records(RecordsFault::TooLong),
+        TextFault::Records(RecordsFault::TooLong),
         "too many records",
     ),
-    (CommandFault::Records(RecordsFault::Memory), "out of memory"),
+    (TextFault::Records(RecordsFault::Memory), "out of memory"),
+    (TextFault::Settings, "bad settings"),
 ];
 
 static DRAW_FAULTS: [(DrawFault, &str); 3] = [
@@ -130,102 +117,6 @@ fn expect_texts<E: Display>(rt: &impl Abort, alloc: Global, faults: &[(E, &str)]
         let found = format!(in alloc; "{fault}").expect(rt, "a text");
         expect_at(rt, text, found.as_str(), *text);
     }
-}
-
-// The faults that can't lie in a static, since some hold what clap says.
-fn expect_texts_of_lines(rt: &impl Abort, alloc: Global) {
-    expect_texts(
-        rt,
-        alloc,
-        &[
-            (LineFault::Range, "--from is above --to"),
-            (
-                LineFault::Forms,
-                "--packed and --dotted are two forms of stamps",
-            ),
-            (LineFault::Unsent, "--unsent takes only the word `local`"),
-            (
-                LineFault::Receives,
-                "--receives takes `tick`, `merge` or `merge-clock`",
-            ),
-            (LineFault::Output, "--output takes `csv`, `json` or `text`"),
-            (
-                LineFault::Question,
-                "--ask takes a question of a log: explain,LINE, check,LINE,LINE.., relation,LINE,LINE, influenced,LINE, drift,NODE, claimed,LINE, event,LINE, why,LINE,LINE, tainted,LINE or first,NODE,RULE; or `-`, if questions follow the log",
-            ),
-            (
-                LineFault::Sign("packed"),
-                "--packed takes a whole number without a sign",
-            ),
-            (
-                LineFault::Part(PartMistake::RowsAlone),
-                "--rows needs --around",
-            ),
-            (
-                LineFault::Part(PartMistake::AroundBetween),
-                "--around takes no --from or --to",
-            ),
-            (
-                LineFault::Part(PartMistake::NoLine("around")),
-                "--around takes LINE or NAME:LINE, with a LINE of at least 1",
-            ),
-            (
-                LineFault::Part(PartMistake::ChainOfNone),
-                "--only-chain needs --explain",
-            ),
-            (
-                LineFault::Part(PartMistake::ChainAndRows),
-                "--only-chain takes no --from, --to or --around",
-            ),
-            (
-                LineFault::Records(RecordsMistake::WithoutJson),
-                "--field and --kind need --jsonl",
-            ),
-            (
-                LineFault::Records(RecordsMistake::UnitAlone),
-                "--reading-unit and --l-unit need one another",
-            ),
-            (
-                LineFault::Records(RecordsMistake::Resent),
-                "--resent takes `first` or `last`",
-            ),
-            (
-                LineFault::Records(RecordsMistake::Faults),
-                "--lenient takes no --all-faults: bad records are left out, or each is told",
-            ),
-            (LineFault::Memory, "out of memory"),
-        ],
-    );
-    expect_texts(
-        rt,
-        alloc,
-        &[
-            (Fault::Encoding, "the arguments are not UTF-8"),
-            (Fault::Line(LineFault::Range), "--from is above --to"),
-            (
-                Fault::Line(LineFault::Forms),
-                "--packed and --dotted are two forms of stamps",
-            ),
-            (
-                Fault::Line(LineFault::Unsent),
-                "--unsent takes only the word `local`",
-            ),
-            (
-                Fault::Line(LineFault::Receives),
-                "--receives takes `tick`, `merge` or `merge-clock`",
-            ),
-            (
-                Fault::Line(LineFault::Question),
-                "--ask takes a question of a log: explain,LINE, check,LINE,LINE.., relation,LINE,LINE, influenced,LINE, drift,NODE, claimed,LINE, event,LINE, why,LINE,LINE, tainted,LINE or first,NODE,RULE; or `-`, if questions follow the log",
-            ),
-            (
-                Fault::Line(LineFault::Part(PartMistake::RowsAlone)),
-                "--rows needs --around",
-            ),
-            (Fault::Line(LineFault::Memory), "out of memory"),
-            (Fault::Command(CommandFault::BadLog), "bad log"),
-        ],
-    );
 }
 
 #[test]
@@ -242,8 +133,48 @@ fn each_fault_has_its_text(rt: HostRuntime) {
     expect_texts(&rt, alloc, &OUTPUT_FAULTS);
     expect_texts(&rt, alloc, &RECORDS_FAULTS);
     expect_texts(&rt, alloc, &DRAW_FAULTS);
-    expect_texts(&rt, alloc, &COMMAND_FAULTS);
-    expect_texts_of_lines(&rt, alloc);
+    expect_texts(&rt, alloc, &TEXT_FAULTS);
+    // (a run tells the option's range in place of this)
+    let signed = LineFault::Sign("packed");
+    let text = "--packed takes a whole number without a sign";
+    expect_texts(&rt, alloc, &[(signed, text)]);
+}
+
+// What stops a command in no run, and the line that tells of it.
+static TOLD: [(CommandFault, &str); 3] = [
+    (CommandFault::Settings, "hlc: bad settings\n"),
+    (
+        CommandFault::Mismatch(NodeId(3)),
+        "hlc: log mismatch at node 3\n",
+    ),
+    (
+        CommandFault::GateShut(NodeId(63)),
+        "hlc: gate shut at node 63\n",
+    ),
+];
+
+#[test]
+fn tells_of_faults_of_no_run(rt: HostRuntime) {
+    for (fault, line) in &TOLD {
+        let mut errors = Vec::new(rt.alloc());
+        let failed = Ended {
+            status: 1,
+            told: true,
+        };
+        let found = report(&mut errors, &Fault::Command(*fault));
+        expect_at(&rt, line, found, failed);
+        expect_at(&rt, line, errors.as_slice(), line.as_bytes());
+    }
+}
+
+// A program that is run has a name at least.
+#[test]
+fn no_arguments_name_no_subcommand(rt: HostRuntime) {
+    let kind = match order(rt.alloc(), &[]) {
+        Err(LineFault::Line(e)) => Some(e.kind()),
+        _ => None,
+    };
+    assert_eq!(rt; kind, Some(ErrorKind::MissingSubcommand));
 }
 
 #[test]

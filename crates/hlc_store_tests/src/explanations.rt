@@ -1,4 +1,4 @@
-// All stamps of long histories explained by threads. Many events have the same reading, so that chains are long.
+// All stamps of long histories explained by threads, which no command shows. Many events have the same reading, so that chains are long.
 
 ghost use Rattle.std.specs.Prelude.{◌^◌, ◌<◌, length};
 ghost use Rattle.hlc_arena.specs.ClockRule.{HasLeastStamps};
@@ -9,6 +9,7 @@ use hlc_explain::{Summary, explain_all};
 use hlc_stamp::{EventId, NodeId};
 use std::alloc::Global;
 use std::process::Abort;
+use std::thread::Threads;
 
 const KEY: &[u8] = b"k";
 
@@ -97,24 +98,18 @@ fn expect_in_turn(rt: &impl Abort, history: &Arena, summaries: &[Summary]) {
     }
 }
 
+// Explains a history of so many events, of which so many read the same time.
+fn expect_explained<R: Threads + Sync + Abort>(rt: &R, alloc: Global, events: u32, ties: u32)
+    requires { 0 < ties }
+{
+    let history = history(rt, alloc, events, ties);
+    let summaries = explain_all(rt, alloc, history.execution()).expect(rt, "summaries");
+    expect_in_turn(rt, &history, &summaries);
+}
+
+// Each followed to its origin, the chains of the second history take a thousand million steps.
 #[test]
 fn threads_answer_what_a_loop_does(rt: HostRuntime) {
-    let history = history(&rt, rt.alloc(), 5_000, 100);
-    let summaries = explain_all(&rt, rt.alloc(), history.execution()).expect(&rt, "summaries");
-    expect_in_turn(&rt, &history, &summaries);
-}
-
-fn expect_first_origin(rt: &impl Abort, summaries: &[Summary], len: usize) {
-    assert!(rt; summaries.len() == len);
-    for summary in summaries {
-        assert!(rt; summary.origin == EventId(0));
-    }
-}
-
-// Each followed to its origin, these chains take a thousand million steps.
-#[test]
-fn long_chains_take_linear_time(rt: HostRuntime) {
-    let history = history(&rt, rt.alloc(), 100_000, 100_000);
-    let summaries = explain_all(&rt, rt.alloc(), history.execution()).expect(&rt, "summaries");
-    expect_first_origin(&rt, &summaries, 100_000);
+    expect_explained(&rt, rt.alloc(), 5_000, 100);
+    expect_explained(&rt, rt.alloc(), 100_000, 100_000);
 }

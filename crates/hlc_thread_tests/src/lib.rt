@@ -1,4 +1,4 @@
-//! Tests of seats, replicas and seeded scripts, through the public calls of `hlc_held`, `hlc_shared` and `hlc_seeded`, and of
+//! Tests of seats and replicas, which may follow seeded scripts, through the public calls of `hlc_held` and `hlc_shared`, and of the callers over them in
 //! `hlc_examples`.
 #![tactic(auto)]
 
@@ -16,5 +16,3 @@ mod replica_storms;
 mod replicas;
 #[cfg(test)]
 mod shared_calls;
-#[cfg(test)]
-mod storms;

@@ -65,6 +65,8 @@ fn a_run_is_exported(rt: HostRuntime) {
     let left = run_and_export(rt.alloc(), script, settings, &mut answers);
     let (ran, exported) = left.expect(&rt, "a history");
     assert!(rt; ran.history.len() == 1);
+    let counts = ran.counts;
+    assert!(rt; counts.records == 3 && counts.events == 1 && counts.refused == 1);
     assert!(rt; exported.as_slice() == b"write,0,10,cart,apples\n".as_slice());
     assert!(rt;
         answers.as_slice()
