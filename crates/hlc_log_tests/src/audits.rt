@@ -1,11 +1,8 @@
 // Reports on logs, with rows that are worked out by hand, and what each fault leaves.
 
-ghost use Rattle.std.specs.Prelude.{◌≤◌};
-ghost use Rattle.hlc_stamp.specs.declared.limits.TheConstants.{MAX_CAPACITY};
-
 use crate::slow::Slow;
 use hlc_causality::Receives;
-use hlc_log_audit::{AuditRules, Audited, Outcome, RecordsFault, audit_run, audit_up_to};
+use hlc_log_audit::{AuditRules, Audited, Outcome, RecordsFault, audit_run};
 use hlc_log_text::{FaultRule, LogRules, NameKey, RecordSyntax, StampForm};
 use std::alloc::Global;
 use std::io::{self, ErrorKind, Write};
@@ -153,35 +150,6 @@ pub(crate) fn expect_reports(
 #[test]
 fn reports_on_logs(rt: HostRuntime) {
     expect_reports(&rt, rt.alloc(), PAIRS, &LOGS);
-}
-
-// Audits MESSAGE with at most so many records.
-fn expect_message(
-    rt: &impl Abort,
-    alloc: Global,
-    most: u32,
-    audited: Result<Outcome, RecordsFault>,
-    rows: &str,
-)
-    requires { most ≤ MAX_CAPACITY }
-{
-    let mut out = Vec::new(alloc);
-    let found = audit_up_to(
-        alloc,
-        MESSAGE.as_bytes(),
-        &mut out,
-        PAIRS,
-        &[],
-        most,
-        NameKey::fixed(),
-    );
-    expect_audited(rt, &out, rows, found, audited);
-}
-
-#[test]
-fn a_record_is_too_many(rt: HostRuntime) {
-    expect_message(&rt, rt.alloc(), 3, Err(RecordsFault::TooLong), "");
-    expect_message(&rt, rt.alloc(), 4, Ok(Outcome::Sound), MESSAGE_ROWS);
 }
 
 fn expect_no_rows(rt: &impl Abort, alloc: Global, bytes: &[u8]) {

@@ -3,6 +3,7 @@
 ghost use Rattle.std.specs.Prelude.{◌≤◌};
 ghost use Rattle.hlc_stamp.specs.declared.limits.TheConstants.{MAX_CAPACITY};
 
+use hlc_log_audit::RecordsFault;
 use hlc_log_text::{
     BadLog, LogColumn, LogQuestion, LogRules, LogText, LogTextFault, NameKey, StampForm,
     question_of, read_log,
@@ -176,7 +177,7 @@ fn expect_length(rt: &impl Abort, alloc: Global, text: &[u8], most: u32, is_too_
 {
     match read_up_to(alloc, text, most).err() {
         None => assert!(rt; !is_too_long),
-        Some(fault) => assert!(rt; is_too_long && matches!(fault, LogTextFault::TooLong)),
+        Some(fault) => assert!(rt; is_too_long && matches!(fault, LogTextFault::Records(RecordsFault::TooLong))),
     }
 }
 

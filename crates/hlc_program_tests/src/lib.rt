@@ -14,8 +14,6 @@ mod failed_outputs;
 #[cfg(test)]
 mod lines;
 #[cfg(test)]
-mod log_pictures;
-#[cfg(test)]
 mod pictures;
 #[cfg(test)]
 mod reports;
