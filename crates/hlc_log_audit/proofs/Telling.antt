@@ -1,16 +1,21 @@
 -- Which rows are told of a log.
-use Rattle.std.proofs.Common.{◌≡◌, ◌∙◌, ◌==◌, true, false, ℕ, inl, inr, List, [], ◌∷◌, ◌++◌, Option, ap, length, refl, sym}
+use Rattle.std.proofs.Common.{◌≡◌, ◌∙◌, ◌==◌, true, false, ℕ, inl, inr, List, [], ◌∷◌, ◌++◌, Option, ap, length, refl, subst, sym}
 use Rattle.std.specs.Io.KnownBytes.{Appends}
 use Rattle.hlc_log_text.specs.declared.bad_log.BadLine.{BadLine}
 use Rattle.hlc_log_text.specs.declared.log_rules.LogRules.{LogRules}
 use Rattle.hlc_log_text.specs.ReadText.{ReadText}
 use Rattle.hlc_log_text.specs.declared.question.LogQuestion.{LogQuestion}
-use Rattle.hlc_open_log.specs.Opened.{IsOpenedOf, OpenedLog, labels_kept}
+use Rattle.hlc_open_log.specs.Opened.{IsOpened, IsOpenedOf, OpenedLog, labels_kept}
 use Rattle.hlc_open_log.specs.Unopened.{ExplainsOpenFault, bad_text}
 use Rattle.hlc_open_log.specs.declared.bad_input.BadInput.{BadInput}
 use Rattle.hlc_open_log.specs.declared.bad_input.BadInput.TheVariants.{Events, Records}
 use Rattle.hlc_open_log.specs.declared.fault.OpenFault.TheVariants.{Bad}
-use Rattle.hlc_log_audit.specs.Audit.{IsAudited, IsTextAudited, IsTold, all_asked, is_reported}
+use Rattle.hlc_open_log.specs.declared.fault.OpenFault.{OpenFault}
+use Rattle.hlc_csv.specs.Rows.{Fields, text_of}
+use Rattle.hlc_csv.specs.declared.records_fault.RecordsFault.{RecordsFault}
+use Rattle.hlc_csv.specs.declared.records_fault.RecordsFault.TheVariants as ended
+use Rattle.hlc_log_audit.specs.Audit.{AreRowsTold, EndsAudit, IsAudited, IsBadTold, IsOutcome, IsTextAudited, IsTold, StopsAudit, StopsOpening, all_asked, is_reported}
+use Rattle.hlc_log_audit.specs.declared.audited.Audited.{Audited}
 use Rattle.hlc_log_audit.specs.declared.outcome.Outcome.{Outcome}
 use Rattle.hlc_log_audit.specs.declared.outcome.Outcome.TheVariants.{BadLog, Broken, OverLimit, Sound}
 use Rattle.hlc_log_audit.specs.declared.rules.AuditRules.{AuditRules}
@@ -62,3 +67,38 @@ bad_is_audited rules most asked bytes before after (Records records) read shown 
     inr (record { told = records.items; read = read; text = shown; is_bad = refl })
 bad_is_audited rules most asked bytes before after (Events events) (text, read, none) shown =
     inl (record { text = text; read = read; left = (events.items, none, shown) })
+
+module _ (rules : AuditRules) (most : ℕ) (asked : List LogQuestion) (bytes before after : Option (List ℕ)) where
+  -- so ends the audit of a log that was opened, of which rows were told
+  pub opened_ends : (opened : OpenedLog) (audited : Audited) → IsOpened rules.records most bytes opened
+      → ((told : List Fields) × AreRowsTold opened rules (all_asked opened.questions asked) told × Appends before after (text_of told)
+      × IsOutcome rules opened.log audited.outcome) → audited.events ≡ length opened.log.events
+      → EndsAudit rules most asked bytes before after audited
+  opened_ends opened audited is told counted = (
+    inl (record {
+      text = is.0;
+      read = is.1;
+      left =
+          told_is_audited is.0 rules asked before after audited.outcome
+          (record { opened = opened; is_opened = is.2; rows = told.0; told = told.1; written = told.2; outcome = told.3 });
+    }),
+    λ _. (opened, is, counted),
+  )
+
+  -- and so that of bad input, of which that was told
+  pub bad_ends : (fault : OpenFault) (audited : Audited) → ExplainsOpenFault rules.records most bytes fault → IsBadTold fault before after audited
+      → EndsAudit rules most asked bytes before after audited
+  bad_ends fault audited explained (bad, is, shown, is_bad) = (
+    subst (IsAudited rules most asked bytes before after) (sym is_bad)
+        (bad_is_audited rules most asked bytes before after bad (subst (ExplainsOpenFault rules.records most bytes) is explained) shown),
+    λ good. absurd (good is_bad),
+  )
+
+-- why an input couldn't be read is why its audit ends before
+pub stops_with : {W : Type 0} (rules : LogRules) (most : ℕ) (bytes : Option (List ℕ)) (old new : W) (fault : OpenFault)
+    → ExplainsOpenFault rules most bytes fault → (why : RecordsFault) → StopsOpening fault old new why → StopsAudit rules most bytes old new why
+stops_with rules most bytes old new fault explained ended.Read stops = stops.1
+stops_with rules most bytes old new fault explained ended.Write stops = tt
+stops_with rules most bytes old new fault explained ended.TooLong stops =
+    (subst (ExplainsOpenFault rules most bytes) stops.0 explained, stops.1)
+stops_with rules most bytes old new fault explained ended.Memory stops = tt

@@ -10,7 +10,9 @@ use Rattle.hlc_log_text.specs.Files.{line_text}
 use Rattle.hlc_log_text.specs.StampForms.{greatest_c}
 use Rattle.hlc_log_text.specs.declared.file_mark.FileMark.{FileMark}
 use Rattle.hlc_log_text.specs.Question.{Asked, plain_asked}
-use Rattle.hlc_log_text.specs.ReadLog.{IsReadWhole}
+use Rattle.hlc_csv.specs.declared.records_fault.RecordsFault.{RecordsFault}
+use Rattle.hlc_csv.specs.declared.records_fault.RecordsFault.TheVariants as ended
+use Rattle.hlc_log_text.specs.ReadLog.{HasTooMany, IsReadWhole}
 use Rattle.hlc_log_text.specs.declared.bad_log.BadLine.{BadLine}
 use Rattle.hlc_log_text.specs.declared.bad_log.BadRecord.{BadRecord}
 use Rattle.hlc_log_text.specs.declared.fault_rule.FaultRule.{FaultRule}
@@ -27,7 +29,10 @@ use Rattle.hlc_ordered_log.specs.Unread.{unread_count}
 use Rattle.hlc_ordered_log.specs.Unstamped.{unstamped_count}
 use Rattle.hlc_ordered_log.specs.declared.counts.Counts.{Counts}
 use Rattle.hlc_open_log.specs.Opened.{IsOpened, IsOpenedOf, OpenedLog, opened_events}
-use Rattle.hlc_open_log.specs.Unopened.{AreRecordsBad, HasNoOrder, events_text, records_text}
+use Rattle.hlc_open_log.specs.Unopened.{AreRecordsBad, HasNoOrder, bad_text, events_text, records_text}
+use Rattle.hlc_open_log.specs.declared.bad_input.BadInput.{BadInput}
+use Rattle.hlc_open_log.specs.declared.fault.OpenFault.{OpenFault}
+use Rattle.hlc_open_log.specs.declared.fault.OpenFault.TheVariants as unopened
 use Rattle.hlc_open_log.specs.declared.bad_event.BadEvent.{BadEvent}
 use Rattle.hlc_log_audit.specs.LeftOut.{left_out_rows}
 use Rattle.hlc_log_audit.specs.OverLimit.{IsClaimOver}
@@ -186,6 +191,18 @@ abbrev pub IsAudited : AuditRules → (most : ℕ) → List LogQuestion → (byt
 IsAudited rules most asked bytes before after result =
     IsWholeAudited rules most asked bytes before after result ⊎ IsBadTextShown rules most bytes before after result
 
+-- input that couldn't be opened for this fault is bad: the writer got the rows that say why, and the answer says so
+abbrev pub IsBadTold : OpenFault → (before after : Option (List ℕ)) → Audited → Type 0
+IsBadTold fault before after audited =
+    (bad : BadInput) × (fault ≡ unopened.Bad bad) × Appends before after (bad_text bad) × (audited.outcome ≡ outcome.BadLog)
+
+-- input couldn't be opened, and this is why nothing is told of it: it was read no further, and the writer got nothing; else writing or memory failed
+abbrev pub StopsOpening : {W : Type 0} → OpenFault → (old new : W) → RecordsFault → Type 0
+StopsOpening fault old new ended.Read = (fault ≡ unopened.Records ended.Read) × (new ≡ old)
+StopsOpening fault old new ended.Write = Unit {0}
+StopsOpening fault old new ended.TooLong = (fault ≡ unopened.Records ended.TooLong) × (new ≡ old)
+StopsOpening fault old new ended.Memory = Unit {0}
+
 -- the bytes are a log of at most so many records, which has so many events once it is opened
 abbrev pub HasEventCount : LogRules → (most : ℕ) → (bytes : Option (List ℕ)) → (count : ℕ) → Type 0
 HasEventCount rules most bytes count = (opened : OpenedLog) × IsOpened rules most bytes opened × (count ≡ length opened.log.events)
@@ -193,3 +210,15 @@ HasEventCount rules most bytes count = (opened : OpenedLog) × IsOpened rules mo
 -- what an audit answers tells how many events the log has, if the bytes are one
 abbrev pub TellsEvents : LogRules → (most : ℕ) → (bytes : Option (List ℕ)) → Audited → Type 0
 TellsEvents rules most bytes audited = ¬ (audited.outcome ≡ outcome.BadLog) → HasEventCount rules most bytes audited.events
+
+-- how an audit of some bytes ends: it left this, with its outcome, and tells how many events they have, if they are a log
+abbrev pub EndsAudit : AuditRules → (most : ℕ) → List LogQuestion → (bytes before after : Option (List ℕ)) → Audited → Type 0
+EndsAudit rules most asked bytes before after audited =
+    IsAudited rules most asked bytes before after audited.outcome × TellsEvents rules.records most bytes audited
+
+-- why an audit of some bytes ends before: where they are read no further, the writer got nothing
+abbrev pub StopsAudit : {W : Type 0} → LogRules → (most : ℕ) → (bytes : Option (List ℕ)) → (old new : W) → RecordsFault → Type 0
+StopsAudit rules most bytes old new ended.Read = new ≡ old
+StopsAudit rules most bytes old new ended.Write = Unit {0}
+StopsAudit rules most bytes old new ended.TooLong = HasTooMany rules most bytes × (new ≡ old)
+StopsAudit rules most bytes old new ended.Memory = Unit {0}

@@ -1,11 +1,12 @@
-ghost use Rattle.std.specs.Prelude.{◌≡◌, ◌≤◌, List, Option, IfOk, IsErrOf, OnOk, length};
+ghost use Rattle.std.specs.Prelude.{◌≡◌, ℕ, List, Option, IfErr, IfOk, OnOk, length};
 ghost use Rattle.std.specs.Io.KnownBytes.{Appends};
 ghost use Rattle.hlc_log_text.specs.StampForms.{greatest_c};
 ghost use Rattle.hlc_csv.specs.Rows.{AddsRows, Fields, text_of};
-ghost use Rattle.hlc_log_text.specs.ReadLog.{HasTooMany};
+ghost use Rattle.hlc_open_log.specs.Unopened.{IsOpening};
 ghost use Rattle.hlc_log_audit.specs.Answers.{AreAnswers};
-ghost use Rattle.hlc_log_audit.specs.Audit.{AreRowsTold, IsAudited, IsOutcome, IsReportIf, TellsEvents, all_asked, counted_row, is_reported, missing_rows, skipped_row, taken_row, taken_rows};
+ghost use Rattle.hlc_log_audit.specs.Audit.{AreRowsTold, EndsAudit, IsBadTold, IsOutcome, IsReportIf, StopsAudit, StopsOpening, all_asked, counted_row, is_reported, missing_rows, skipped_row, taken_row, taken_rows};
 ghost use Rattle.hlc_ordered_log.specs.Counts.{AreCounted};
+ghost use Rattle.hlc_log_audit.specs.Report.{IsReport};
 
 use crate::answer::push_answers;
 use crate::audited::Audited;
@@ -112,6 +113,24 @@ fn is_reported(rules: AuditRules, questions: &[LogQuestion], asked: &[LogQuestio
     rules.report || (questions.is_empty() && asked.is_empty())
 }
 
+// Adds the report on a log, whose verdicts have these counts.
+fn push_counted_report<W: Write>(
+    alloc: Global,
+    rows: &mut RowBuffer,
+    log: &OpenLog,
+    counts: Counts,
+    writer: &mut W,
+) -> Result<(), OutputFault>
+    requires { AreCounted log.now.log log.now.full counts }
+    ensures { OnOk result ((report : List Fields) × IsReport log.now.files log.now.nodes log.now.log log.now.full report
+        × AddsRows W.contents writer.old writer.new rows.old rows.new report) }
+{
+    let ordered = log.ordered();
+    let messages = count_messages(ordered);
+    let skews = skews_of(alloc, ordered)?;
+    push_report(alloc, rows, log, counts, messages, &skews, writer)
+}
+
 // Adds the report on a log, whose verdicts have these counts, and what else is told beside answers, if that is to be written.
 fn push_if_told<W: Write>(
     alloc: Global,
@@ -133,16 +152,7 @@ fn push_if_told<W: Write>(
     }
     let files = log.files();
     let ordered = log.ordered();
-    let skews = skews_of(alloc, ordered)?;
-    push_report(
-        alloc,
-        rows,
-        log,
-        counts,
-        count_messages(ordered),
-        &skews,
-        writer,
-    )?;
+    push_counted_report(alloc, rows, log, counts, writer)?;
     push_all_taken(rows, log.unsent(), log.resent(), writer)?;
     push_missing(rows, files, ordered, log.skipped(), writer)?;
     push_left_out(rows, files, log.left_out(), writer)?;
@@ -207,36 +217,45 @@ pub fn audit_opened<W: Write>(
     })
 }
 
-/// Audits a log of at most so many records, as `audit_run` does.
-pub fn audit_up_to<R: Read + Drop, W: Write>(
+/// Writes the rows that say why an input is no log, and answers so; or hands the fault back for which it was read no further: what `audit_run` does
+/// if it can't open the log.
+pub fn audit_unopened<W: Write>(
     alloc: Global,
-    reader: R,
+    fault: &OpenFault,
     writer: &mut W,
-    rules: AuditRules,
-    asked: &[LogQuestion],
-    most: u32,
-    key: NameKey,
 ) -> Result<Audited, RecordsFault>
-    requires { most ≤ MAX_CAPACITY }
-    ensures audited { IfOk result (λ audited. IsAudited rules most asked.now
-        (R.remaining reader) (W.contents writer.old) (W.contents writer.new) audited.outcome) }
-    ensures counted { IfOk result (TellsEvents rules.records most (R.remaining reader)) }
-    ensures read { IsErrOf result RecordsFault.Read → writer.new ≡ writer.old }
-    ensures too_long { IsErrOf result RecordsFault.TooLong → HasTooMany rules.records most (R.remaining reader) }
-    ensures nothing { IsErrOf result RecordsFault.TooLong → writer.new ≡ writer.old }
+    ensures told { IfOk result (IsBadTold fault.now (W.contents writer.old) (W.contents writer.new)) }
+    ensures stopped { IfErr result (StopsOpening fault.now writer.old writer.new) }
 {
-    match open_log(alloc, reader, rules.records, most, key) {
-        Ok(log) => Ok(audit_opened(alloc, &log, rules, asked, writer)?),
-        Err(OpenFault::Bad(bad)) => {
-            tell_bad(alloc, &bad, writer)?;
+    match fault {
+        OpenFault::Bad(bad) => {
+            tell_bad(alloc, bad, writer)?;
             Ok(Audited {
                 outcome: Outcome::BadLog,
                 events: 0,
             })
         }
-        Err(OpenFault::Read) => Err(RecordsFault::Read),
-        Err(OpenFault::TooLong) => Err(RecordsFault::TooLong),
-        Err(OpenFault::Memory) => Err(RecordsFault::Memory),
+        OpenFault::Records(fault) => Err(*fault),
+    }
+}
+
+// Tells what there is to tell of an input, which was opened as a log by these rules, or wasn't. Whoever owns the log has one way out.
+fn audit_opening<W: Write>(
+    alloc: Global,
+    opening: &Result<OpenLog, OpenFault>,
+    rules: AuditRules,
+    asked: &[LogQuestion],
+    writer: &mut W,
+) -> Result<Audited, RecordsFault>
+    requires { IfOk opening.now (λ log. log.full ≡ greatest_c rules.records.form) }
+    ensures audited { (most : ℕ) (bytes : Option (List ℕ)) → IsOpening rules.records most bytes opening.now
+        → IfOk result (EndsAudit rules most asked.now bytes (W.contents writer.old) (W.contents writer.new)) }
+    ensures stopped { (most : ℕ) (bytes : Option (List ℕ)) → IsOpening rules.records most bytes opening.now
+        → IfErr result (StopsAudit rules.records most bytes writer.old writer.new) }
+{
+    match opening {
+        Ok(log) => Ok(audit_opened(alloc, log, rules, asked, writer)?),
+        Err(fault) => audit_unopened(alloc, fault, writer),
     }
 }
 
@@ -253,12 +272,9 @@ pub fn audit_run<R: Read + Drop, W: Write>(
     asked: &[LogQuestion],
     key: NameKey,
 ) -> Result<Audited, RecordsFault>
-    ensures audited { IfOk result (λ audited. IsAudited rules MAX_CAPACITY asked.now
-        (R.remaining reader) (W.contents writer.old) (W.contents writer.new) audited.outcome) }
-    ensures counted { IfOk result (TellsEvents rules.records MAX_CAPACITY (R.remaining reader)) }
-    ensures read { IsErrOf result RecordsFault.Read → writer.new ≡ writer.old }
-    ensures too_long { IsErrOf result RecordsFault.TooLong → HasTooMany rules.records MAX_CAPACITY (R.remaining reader) }
-    ensures nothing { IsErrOf result RecordsFault.TooLong → writer.new ≡ writer.old }
+    ensures audited { IfOk result (EndsAudit rules MAX_CAPACITY asked.now (R.remaining reader) (W.contents writer.old) (W.contents writer.new)) }
+    ensures stopped { IfErr result (StopsAudit rules.records MAX_CAPACITY (R.remaining reader) writer.old writer.new) }
 {
-    audit_up_to(alloc, reader, writer, rules, asked, MAX_CAPACITY, key)
+    let opening = open_log(alloc, reader, rules.records, MAX_CAPACITY, key);
+    audit_opening(alloc, &opening, rules, asked, writer)
 }

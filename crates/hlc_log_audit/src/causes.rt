@@ -5,7 +5,7 @@ ghost use Rattle.hlc_log_audit.specs.Answers.{told_in};
 ghost use Rattle.hlc_causes.specs.declared.answers.Causes.{Causes as CausesFound};
 ghost use Rattle.hlc_ordered_log.specs.InOrder.{IsInOrder};
 ghost use Rattle.hlc_ordered_log.specs.Counts.{AreCounted, no_findings};
-ghost use Rattle.hlc_log_audit.specs.Report.{AreCauses, NameEvents, NamesCausesAt, NamesEvent, cause_fields_at, cause_row, cause_rows, cause_rows_at, swapped_at, swapped_fields, wrong_at, wrong_row};
+ghost use Rattle.hlc_log_audit.specs.Report.{AreCauses, NameEvents, NamesCausesAt, NamesEvent, cause_fields, cause_fields_at, cause_row, cause_rows, cause_rows_at, swapped_at, swapped_fields, wrong_at, wrong_row};
 
 use crate::lines::told_line;
 use crate::soundness::carries_wrongly;
@@ -150,6 +150,37 @@ fn push_not_above<W: Write>(
     push_two_lines(rows, line, node, &direct, swapped, writer)
 }
 
+// Adds the row of a cause of the event at a place, which stands on this line, at a node of this name.
+fn push_rule<W: Write>(
+    rows: &mut RowBuffer,
+    files: &Files,
+    log: &OrderedLog,
+    place: EventId,
+    line: &LineText,
+    node: &[u8],
+    found: Cause,
+    full: u32,
+    writer: &mut W,
+) -> Result<(), OutputFault>
+    requires ordered { IsInOrder log.now }
+    requires exists { place.0 < length log.now.events }
+    requires event { NamesEvent log.now found }
+    ensures { OnOk result (AddsRow W.contents writer.old writer.new rows.old rows.new
+        (codes "cause" ∷ line.now ∷ node.now ∷ cause_fields files.now log.now (swapped_at log.now full place.0) found)) }
+{
+    match found {
+        Cause::Behind => push_behind(rows, line, node, writer),
+        Cause::NotAbovePrevious(direct) => {
+            let swapped = is_swapped_at(log, place, full);
+            push_not_above(rows, files, log, line, node, direct, swapped, writer)
+        }
+        Cause::NotAboveSend(direct) => {
+            push_not_above(rows, files, log, line, node, direct, false, writer)
+        }
+        Cause::Ahead(least) => push_ahead(rows, line, node, least, writer),
+    }
+}
+
 // Adds the row of a cause.
 fn push_cause<W: Write>(
     rows: &mut RowBuffer,
@@ -170,17 +201,7 @@ fn push_cause<W: Write>(
     let event = log.at(place);
     let line = LineText::new(files, u64::from(event.line))?;
     let node = node_name(nodes, event.node);
-    match found {
-        Cause::Behind => push_behind(rows, &line, node, writer),
-        Cause::NotAbovePrevious(direct) => {
-            let swapped = is_swapped_at(log, place, full);
-            push_not_above(rows, files, log, &line, node, direct, swapped, writer)
-        }
-        Cause::NotAboveSend(direct) => {
-            push_not_above(rows, files, log, &line, node, direct, false, writer)
-        }
-        Cause::Ahead(least) => push_ahead(rows, &line, node, least, writer),
-    }
+    push_rule(rows, files, log, place, &line, node, found, full, writer)
 }
 
 // Adds the row of a cause, if there is one.

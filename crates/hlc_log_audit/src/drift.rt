@@ -1,8 +1,8 @@
-ghost use Rattle.std.specs.Prelude.{◌≡◌, ◌<◌, IfSome, OnOk, length, position};
+ghost use Rattle.std.specs.Prelude.{◌≡◌, ◌<◌, ◌∷◌, [], IfOk, IfSome, OnOk, Some, codes, decimal, length, position};
 ghost use Rattle.std.specs.Str.{bytes_eq};
 ghost use Rattle.hlc_csv.specs.Rows.{AddsRow};
 ghost use Rattle.hlc_ordered_log.specs.InOrder.{IsInOrder};
-ghost use Rattle.hlc_log_audit.specs.Answers.{drift_in, drift_row};
+ghost use Rattle.hlc_log_audit.specs.Answers.{drift_fields, drift_in, drift_row, told_in};
 ghost use Rattle.hlc_log_audit.specs.Tally.{AreTallies, furthest_in};
 
 use crate::lines::told_line;
@@ -11,10 +11,36 @@ use crate::words::push_missing;
 use hlc_csv::RowField::{Number, Text};
 use hlc_csv::{OutputFault, RowBuffer};
 use hlc_explain::{Drift, Missing};
+use hlc_log_text::{Files, LineText};
 use hlc_open_log::OpenLog;
 use hlc_ordered_log::OrderedLog;
 use hlc_stamp::NodeId;
+use std::alloc::AllocError;
 use std::io::Write;
+
+// How the lines of a drift are told: where its event stands, and where it began.
+#[derive(Drop)]
+pub(crate) struct DriftLines {
+    pub(crate) event: LineText,
+    pub(crate) origin: LineText,
+}
+
+impl DriftLines {
+    pub(crate) fn new(
+        files: &Files,
+        log: &OrderedLog,
+        drift: Drift,
+    ) -> Result<DriftLines, AllocError>
+        requires event { drift.event.0 < length log.now.events }
+        requires origin { drift.origin.0 < length log.now.events }
+        ensures event { IfOk result (λ lines. lines.event ≡ told_in files.now log.now drift.event.0) }
+        ensures origin { IfOk result (λ lines. lines.origin ≡ told_in files.now log.now drift.origin.0) }
+    {
+        let event = told_line(files, log, drift.event)?;
+        let origin = told_line(files, log, drift.origin)?;
+        Ok(DriftLines { event, origin })
+    }
+}
 
 // The drift of a node, of whose events this one is the furthest ahead of its clock, if there is one.
 //
@@ -39,6 +65,40 @@ pub(crate) fn drift_from(
     })
 }
 
+// Adds the row of the drift of the node of a name, by how its lines are told.
+fn push_fields<'a, W: Write>(
+    rows: &mut RowBuffer,
+    name: &'a [u8],
+    ahead: u64,
+    lines: &'a DriftLines,
+    writer: &mut W,
+) -> Result<(), OutputFault>
+    ensures { OnOk result (AddsRow W.contents writer.old writer.new rows.old rows.new
+        (codes "drift" ∷ name.now ∷ decimal ahead ∷ lines.now.event ∷ lines.now.origin ∷ [])) }
+{
+    let (word, name, ahead) = (Text(b"drift"), Text(name), Number(ahead));
+    let (line, origin) = (lines.event.field(), lines.origin.field());
+    rows.push(&[word, name, ahead, line, origin], writer)
+}
+
+// Adds the row of the drift of the node of a name.
+fn push_found<W: Write>(
+    rows: &mut RowBuffer,
+    files: &Files,
+    log: &OrderedLog,
+    name: &[u8],
+    drift: Drift,
+    writer: &mut W,
+) -> Result<(), OutputFault>
+    requires event { drift.event.0 < length log.now.events }
+    requires origin { drift.origin.0 < length log.now.events }
+    ensures { OnOk result (AddsRow W.contents writer.old writer.new rows.old rows.new
+        (codes "drift" ∷ name.now ∷ drift_fields files.now log.now (Some drift))) }
+{
+    let lines = DriftLines::new(files, log, drift)?;
+    push_fields(rows, name, drift.ahead, &lines, writer)
+}
+
 // Answers how far the stamps of the node of a name ran ahead of its clock, by the tallies of nodes.
 pub(crate) fn push_drift<'a, W: Write>(
     rows: &mut RowBuffer,
@@ -51,20 +111,13 @@ pub(crate) fn push_drift<'a, W: Write>(
     ensures { OnOk result (AddsRow W.contents writer.old writer.new rows.old rows.new
         (drift_row log.now.files log.now.log name.now (position (bytes_eq name.now) log.now.nodes))) }
 {
-    let files = log.files();
-    let ordered = log.ordered();
     let Some(node) = log.nodes().number(name) else {
         return push_missing(rows, Missing::Node, writer);
     };
-    let (word, name) = (Text(b"drift"), Text(name));
+    let ordered = log.ordered();
     let furthest = tallies[node].furthest;
     match drift_from(ordered, NodeId(node as u16), furthest) {
-        None => rows.push(&[word, name, Text(b"none")], writer),
-        Some(drift) => {
-            let line = told_line(files, ordered, drift.event)?;
-            let origin = told_line(files, ordered, drift.origin)?;
-            let ahead = Number(drift.ahead);
-            rows.push(&[word, name, ahead, line.field(), origin.field()], writer)
-        }
+        None => rows.push(&[Text(b"drift"), Text(name), Text(b"none")], writer),
+        Some(drift) => push_found(rows, log.files(), ordered, name, drift, writer),
     }
 }

@@ -35,7 +35,9 @@ fn expect_length(rt: &impl Abort, alloc: Global, text: &[u8], most: u32, is_too_
 {
     match read_up_to(alloc, RecordSyntax::Csv, text, most).err() {
         None => assert!(rt; !is_too_long),
-        Some(fault) => assert!(rt; is_too_long && matches!(fault, LogTextFault::TooLong)),
+        Some(fault) => assert!(rt;
+            is_too_long && matches!(fault, LogTextFault::Records(RecordsFault::TooLong))
+        ),
     }
 }
 

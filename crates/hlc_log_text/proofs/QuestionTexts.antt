@@ -1,6 +1,6 @@
 -- The question that a text of one record asks.
 use Rattle.std.proofs.Common.{◌≡◌, ◌∙◌, ◌≤◌, ℕ, Bool, true, false, List, [], ◌∷◌, Option, Some, None, Ok, Err, Result, ap, arith, length, sym}
-use Rattle.std.specs.Prelude.{IfOk}
+use Rattle.std.specs.Prelude.{IfOk, is_some, not}
 use Rattle.std.specs.Result.{result_ok}
 use Rattle.csv.specs.Machine.{Read, next_record}
 use Rattle.csv.specs.Reading.{Reached, default_config, strip_bom}
@@ -11,10 +11,11 @@ use Rattle.hlc_csv.specs.Records.{AreAllOf, BeginsWith}
 use Rattle.hlc_csv.specs.Rows.{Fields}
 use Rattle.hlc_csv.proofs.RecordFacts.{are_all-only}
 use Rattle.hlc_csv.specs.TextEnd.{IsClosed, IsOpen}
-use Rattle.hlc_csv.specs.RecordReader.{ReadsOne}
+use Rattle.hlc_csv.specs.RecordReader.{HasReadTo, ReadsOne, ReadsRecord}
+use Rattle.hlc_csv.specs.declared.found_record.FoundRecord.{FoundRecord}
 use Rattle.hlc_csv.specs.declared.record_reader.RecordReader.{RecordReader}
 use Rattle.hlc_log_text.proofs.ReadFacts.{open_begins}
-use Rattle.hlc_log_text.specs.Question.{Asked, FindsQuestion, IsQuestionText, asked_of, plain_asked, plain_read}
+use Rattle.hlc_log_text.specs.Question.{Asked, FindsQuestion, IsOneIf, IsQuestionText, asked_of, plain_asked, plain_read}
 use Rattle.hlc_log_text.specs.declared.bad_log.BadLog.{BadLog}
 use Rattle.hlc_log_text.specs.declared.question.LogQuestion.{LogQuestion}
 
@@ -34,7 +35,7 @@ reached-within cfg s xs (r ∷ rs) (t ∷ ts) s1 s2 y1 y2 a b bn =
     omega arith
 
 -- the first records are what a text begins with, whether the last of them is open or not
-pub begins_by : {R : Type 0} (rem : R → Option (List ℕ)) (new : RecordReader R) (text : List ℕ) (records : List Fields) (lines : List ℕ) (is_open : Bool)
+begins_by : {R : Type 0} (rem : R → Option (List ℕ)) (new : RecordReader R) (text : List ℕ) (records : List Fields) (lines : List ℕ) (is_open : Bool)
     → ReadsOne rem new (Some text) records lines is_open → BeginsWith (Some text) records
 begins_by rem new text records lines false reads = reads.1.begins
 begins_by rem new text records lines true reads = open_begins (Some text) records reads.ends
@@ -46,24 +47,37 @@ module _ (text : List ℕ) where
   finds-if_ok IsBegun (Ok question) begun found = found text begun
   finds-if_ok IsBegun (Err fault) begun found = found
 
-  finds_none : ((fields : Fields) → AreAllOf (Some text) (fields ∷ []) → ⊥) → FindsQuestion text None
-  finds_none never asked = ((λ is. absurd (cc is)), (λ h. absurd (never h.0 h.1)))
+  -- a text that isn't one record asks nothing
+  pub finds_none : (fields : Fields) → IsOneIf text fields false → FindsQuestion text None
+  finds_none fields never asked = ((λ is. absurd (cc is)), (λ h. absurd (never h.0 h.1 h.3)))
 
   -- there is no record
-  pub finds_none-empty : AreAllOf (Some text) [] → FindsQuestion text None
-  finds_none-empty all = finds_none (λ fields one. (let same : fields ∷ [] ≡ [] = are_all-only (Some text) [] all (fields ∷ []) one in cc same))
+  pub not_one-empty : (fields : Fields) → AreAllOf (Some text) [] → IsOneIf text fields false
+  not_one-empty fields all other one closed = let same : other ∷ [] ≡ [] = are_all-only (Some text) [] all (other ∷ []) one in cc same
 
   -- there are two
-  pub finds_none-more : (first second : Fields) → BeginsWith (Some text) (first ∷ second ∷ []) → FindsQuestion text None
-  finds_none-more first second two = finds_none (λ fields one. (
-      let within = reached-within default_config st.StartRecord (strip_bom text) (first ∷ second ∷ []) (fields ∷ []) two.0 one.0 two.1 one.1 two.2 one.2 one.3 in
-      omega arith))
+  not_one-more : (fields first second : Fields) → BeginsWith (Some text) (first ∷ second ∷ []) → IsOneIf text fields false
+  not_one-more fields first second two other one closed =
+      let within = reached-within default_config st.StartRecord (strip_bom text) (first ∷ second ∷ []) (other ∷ []) two.0 one.0 two.1 one.1 two.2 one.2 one.3 in
+      omega arith
 
   -- it is open
-  pub finds_none-open : IsOpen text → FindsQuestion text None
-  finds_none-open is_open asked = ((λ is. absurd (cc is)), (λ h. absurd (h.3 is_open)))
+  pub not_one-open : (fields : Fields) → IsOpen text → IsOneIf text fields false
+  not_one-open fields is_open other one closed = closed is_open
 
-  -- there is one
+  -- there is one if none is found beyond it
+  pub is_one-if : {R : Type 0} (rem : R → Option (List ℕ)) (old new : RecordReader R) (fields beyond : Fields) (line : ℕ) (found : Option FoundRecord)
+      (answer : Bool) → is_some found ≡ not answer → ReadsRecord rem old new beyond found → HasReadTo rem old (Some text) (fields ∷ []) (line ∷ [])
+      → IsOneIf text fields answer
+  is_one-if rem old new fields beyond line None true is none read =
+      let all = none (Some text) (fields ∷ []) (line ∷ []) read in (all.all, all.closed)
+  is_one-if rem old new fields beyond line None false is none read = let both : false ≡ true = is in absurd (cc both)
+  is_one-if rem old new fields beyond line (Some next) true is more read = let both : true ≡ false = is in absurd (cc both)
+  is_one-if rem old new fields beyond line (Some next) false is more read =
+      not_one-more fields fields beyond (begins_by rem new text (fields ∷ beyond ∷ []) (line ∷ next.line ∷ []) next.is_open
+      (more (Some text) (fields ∷ []) (line ∷ []) read))
+
+  -- it asks what its record asks
   module _ (fields : Fields) (all : AreAllOf (Some text) (fields ∷ [])) (closed : IsClosed (Some text)) where
     only : (other : Fields) → AreAllOf (Some text) (other ∷ []) → other ≡ fields
     only other one = let same : other ∷ [] ≡ fields ∷ [] = are_all-only (Some text) (fields ∷ []) all (other ∷ []) one in cc same

@@ -21,6 +21,7 @@ use Rattle.hlc_log_text.specs.declared.bad_log.BadLog.{BadLog}
 use Rattle.hlc_log_text.specs.declared.bad_log.BadRecord.{BadRecord}
 use Rattle.hlc_log_text.specs.declared.fault.LogTextFault.{LogTextFault}
 use Rattle.hlc_log_text.specs.declared.fault.LogTextFault.TheVariants as fault
+use Rattle.hlc_csv.specs.declared.records_fault.RecordsFault.TheVariants as ended
 use Rattle.hlc_log_text.specs.declared.fault_rule.FaultRule.TheVariants.{TellEach}
 use Rattle.hlc_log_text.specs.BadRecords.{MayBeLeftOut, bad_records_on, told_before}
 use Rattle.hlc_log_text.specs.FileMarks.{file_mark}
@@ -251,9 +252,10 @@ module _ {R : Type 0} (rules : LogRules) (rem : R → Option (List ℕ)) (initia
         (start : HasReadTo rem initial bytes [] []) (read : ReadsRecord rem input next fields None) where
       explains_end : (fault : LogTextFault) → TellsLeftOut rules.faults reading fault → ExplainsFault rules most bytes fault
       explains_end (fault.Bad told) tells = inr (is_read_with_bad next fields most bytes told.items within start read tells)
-      explains_end fault.Read tells = tt
-      explains_end fault.TooLong tells = absurd tells
-      explains_end fault.Memory tells = tt
+      explains_end (fault.Records ended.Read) tells = absurd tells
+      explains_end (fault.Records ended.Write) tells = absurd tells
+      explains_end (fault.Records ended.TooLong) tells = absurd tells
+      explains_end (fault.Records ended.Memory) tells = tt
 
       pub is_read_to_end : {U : Type 0} (ended : Result U LogTextFault)
           → MatchResult ended (λ _. MayBeLeftOut rules.faults reading.left_out.items) (TellsLeftOut rules.faults reading)

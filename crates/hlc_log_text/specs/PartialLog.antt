@@ -18,6 +18,7 @@ use Rattle.hlc_log_text.specs.declared.bad_log.BadLog.{BadLog}
 use Rattle.hlc_log_text.specs.declared.bad_log.BadLog.TheVariants as bad
 use Rattle.hlc_log_text.specs.declared.fault.LogTextFault.{LogTextFault}
 use Rattle.hlc_log_text.specs.declared.fault.LogTextFault.TheVariants as fault
+use Rattle.hlc_csv.specs.declared.records_fault.RecordsFault.TheVariants as ended
 use Rattle.hlc_log_text.specs.declared.fault_rule.FaultRule.{FaultRule}
 use Rattle.hlc_log_text.specs.declared.fault_rule.FaultRule.TheVariants.{TellEach}
 use Rattle.hlc_log_text.specs.declared.log_word.LogWord.{LogWord}
@@ -233,9 +234,8 @@ told_line partial counted = max counted (partial.line + 1)
 abbrev pub TellsLeftOut : FaultRule → PartialLog → LogTextFault → Type 0
 TellsLeftOut rule partial (fault.Bad told) =
     (rule ≡ TellEach) × (told.items ≢ []) × (told.items ≡ bad_records_on partial.files partial.left_out.items)
-TellsLeftOut rule partial fault.Read = ⊥
-TellsLeftOut rule partial fault.TooLong = ⊥
-TellsLeftOut rule partial fault.Memory = Unit {0}
+TellsLeftOut rule partial (fault.Records ended.Memory) = Unit {0}
+TellsLeftOut rule partial (fault.Records _) = ⊥
 
 -- the next record ends the reading for this reason: nothing closes its last field; or it is bad otherwise, and the rules don't leave it out
 abbrev pub IsBadFound : LogRules → List LogItem → Fields → (is_open : Bool) → BadLog → Type 0

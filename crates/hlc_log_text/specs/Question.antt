@@ -1,5 +1,5 @@
 -- What may be asked about a log.
-use Rattle.std.specs.Prelude.{Bool, ◌==◌, ◌≡◌, ◌↔◌, ℕ, ◌+◌, List, [], ◌∷◌, length, Option, Some, None, Result, Ok, Err, bytes_eq, codes, drop, if◌then◌else◌, nat_le, ok_or, option_map, take}
+use Rattle.std.specs.Prelude.{Bool, true, false, ◌==◌, ◌≡◌, ◌↔◌, ℕ, ◌+◌, List, [], ◌∷◌, length, Option, Some, None, Result, Ok, Err, bytes_eq, codes, drop, if◌then◌else◌, nat_le, ok_or, option_map, take}
 use Rattle.memchr.specs.Find.{is_byte, last_of, places}
 use Rattle.hlc_csv.specs.Number.{number_of}
 use Rattle.hlc_csv.specs.Records.{AreAllOf}
@@ -171,6 +171,11 @@ asked_after_word (Some w) fields = if takes_fields w (length fields) then asked_
 -- what a record asks, or the first reason for which it asks nothing
 abbrev pub asked_of : Fields → Result Asked BadLog
 asked_of fields = asked_after_word (question_word_of (field_of fields 0)) fields
+
+-- the answer says whether a text is one record, whose quotation marks are closed: if so, it is this one
+abbrev pub IsOneIf : (text : List ℕ) → Fields → (answer : Bool) → Type 0
+IsOneIf text fields true = AreAllOf (Some text) (fields ∷ []) × IsClosed (Some text)
+IsOneIf text fields false = (other : Fields) → AreAllOf (Some text) (other ∷ []) → IsClosed (Some text) → ⊥
 
 -- a text is one record, which asks this, and its quotation marks are closed
 abbrev pub IsQuestionText : List ℕ → Asked → Type 0

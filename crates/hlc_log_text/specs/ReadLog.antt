@@ -9,6 +9,8 @@ use Rattle.hlc_csv.specs.RecordLines.{line_of, told_lines}
 use Rattle.hlc_csv.specs.TextEnd.{DoNotEndOpen, EndOpen, IsClosed}
 use Rattle.hlc_csv.specs.declared.record_fault.RecordFault.{RecordFault}
 use Rattle.hlc_csv.specs.declared.record_fault.RecordFault.TheVariants as reader
+use Rattle.hlc_csv.specs.declared.records_fault.RecordsFault.{RecordsFault}
+use Rattle.hlc_csv.specs.declared.records_fault.RecordsFault.TheVariants as ended
 use Rattle.hlc_log_text.specs.declared.log_rules.LogRules.{LogRules}
 use Rattle.hlc_log_text.specs.declared.bad_log.BadLine.{BadLine}
 use Rattle.hlc_log_text.specs.declared.bad_log.BadRecord.{BadRecord}
@@ -158,12 +160,17 @@ pub record HasTooMany (rules : LogRules) (most : ℕ) (bytes : Option (List ℕ)
 
 -- the fault of a reader of records
 abbrev pub record_fault : RecordFault → LogTextFault
-record_fault reader.Read = fault.Read
-record_fault reader.Memory = fault.Memory
+record_fault reader.Read = fault.Records ended.Read
+record_fault reader.Memory = fault.Records ended.Memory
+
+-- what the fault for which records are read no further tells of the bytes: reading them writes nothing
+abbrev pub ExplainsEnd : LogRules → (most : ℕ) → (bytes : Option (List ℕ)) → RecordsFault → Type 0
+ExplainsEnd rules most bytes ended.Read = Unit {0}
+ExplainsEnd rules most bytes ended.Write = ⊥
+ExplainsEnd rules most bytes ended.TooLong = HasTooMany rules most bytes
+ExplainsEnd rules most bytes ended.Memory = Unit {0}
 
 -- what a fault tells of the bytes
 abbrev pub ExplainsFault : LogRules → (most : ℕ) → (bytes : Option (List ℕ)) → LogTextFault → Type 0
 ExplainsFault rules most bytes (fault.Bad told) = IsReadUpToBad rules most bytes told.items ⊎ IsReadWithBad rules most bytes told.items
-ExplainsFault rules most bytes fault.Read = Unit {0}
-ExplainsFault rules most bytes fault.TooLong = HasTooMany rules most bytes
-ExplainsFault rules most bytes fault.Memory = Unit {0}
+ExplainsFault rules most bytes (fault.Records why) = ExplainsEnd rules most bytes why

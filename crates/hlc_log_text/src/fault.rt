@@ -11,24 +11,19 @@ pub enum LogTextFault {
     /// Records are bad: the first such that isn't left out; or each, in their order, if each is to be told.
     #[error("a record is bad")]
     Bad(Vec<BadRecord>),
-    /// The reader failed.
-    #[error("{}", RecordsFault::Read)]
-    Read,
-    /// A record past the last that is allowed came.
-    #[error("{}", RecordsFault::TooLong)]
-    TooLong,
-    /// A growth was refused.
-    #[error("{}", RecordsFault::Memory)]
-    Memory,
+    /// They are read no further: the reader failed, a record past the last that is allowed came, or a growth was refused.
+    #[error("{0}")]
+    Records(RecordsFault),
 }
 
 impl From<AllocError> for LogTextFault {
-    ghost use Rattle.hlc_log_text.specs.declared.fault.LogTextFault.TheVariants.{Memory};
+    ghost use Rattle.hlc_csv.specs.declared.records_fault.RecordsFault.TheVariants.{Memory};
+    ghost use Rattle.hlc_log_text.specs.declared.fault.LogTextFault.TheVariants.{Records};
 
-    ghost from_gives = { λ _ e. e ≡ Memory };
+    ghost from_gives = { λ _ e. e ≡ Records Memory };
 
     fn from(_error: AllocError) -> LogTextFault {
-        LogTextFault::Memory
+        LogTextFault::Records(RecordsFault::Memory)
     }
 }
 
@@ -38,9 +33,9 @@ impl From<RecordFault> for LogTextFault {
     ghost from_gives = { λ fault e. e ≡ record_fault fault };
 
     fn from(fault: RecordFault) -> LogTextFault {
-        match fault {
-            RecordFault::Read => LogTextFault::Read,
-            RecordFault::Memory => LogTextFault::Memory,
-        }
+        LogTextFault::Records(match fault {
+            RecordFault::Read => RecordsFault::Read,
+            RecordFault::Memory => RecordsFault::Memory,
+        })
     }
 }

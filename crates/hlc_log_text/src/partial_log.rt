@@ -47,7 +47,6 @@ use std::alloc::{AllocError, Global};
 use std::mem;
 
 // What was read, with all names, and the line on which the last record begins: 0 if there is none.
-#[derive(Drop)]
 pub(crate) struct PartialLog {
     log: Log,
     nodes: NodeNames,
@@ -63,6 +62,26 @@ pub(crate) struct PartialLog {
     left_out: Vec<BadLine>,
     // Which messages were sent, if records that send one of these are bad.
     sent: SentMarks,
+}
+
+// One function drops it, so that whoever owns it has one call on each way out.
+impl Drop for PartialLog {
+    fn drop(self) {
+        let Self {
+            log: _,
+            nodes: _,
+            messages: _,
+            labels: _,
+            senders: _,
+            questions: _,
+            line: _,
+            files: _,
+            header: _,
+            skipped: _,
+            left_out: _,
+            sent: _,
+        } = self;
+    }
 }
 
 // The names of a record, and its label.
@@ -551,13 +570,17 @@ impl PartialLog {
         let count = self.message_count();
         let PartialLog {
             log,
+            nodes: _,
             messages,
             labels,
+            senders: _,
             questions,
+            line: _,
             files,
+            header: _,
             skipped,
             left_out,
-            ..
+            sent: _,
         } = self;
         LogText {
             log,

@@ -1,7 +1,7 @@
 ghost use Rattle.std.specs.Prelude.{[], IfOk, List, Some, ℕ};
 ghost use Rattle.csv.specs.Records.{fields_of};
 ghost use Rattle.hlc_csv.specs.RecordReader.{HasReadTo, ReadsRecord};
-ghost use Rattle.hlc_log_text.specs.Question.{FindsQuestion};
+ghost use Rattle.hlc_log_text.specs.Question.{FindsQuestion, IsOneIf};
 
 use crate::question::LogQuestion;
 use csv::ByteRecord;
@@ -22,25 +22,36 @@ fn read_record<R: Read + Drop>(
     }
 }
 
+// Whether a text, of which nothing is read yet, is one record, which is then in `fields`; what may stand beyond it is read into another record.
+fn is_one_record<R: Read + Drop>(
+    input: &mut RecordReader<R>,
+    fields: &mut ByteRecord,
+    beyond: &mut ByteRecord,
+) -> Result<bool, AllocError>
+    ensures { IfOk result (λ is_one. (text : List ℕ) → HasReadTo R.remaining input.old (Some text) [] [] → IsOneIf text (fields_of fields.new) is_one) }
+{
+    let Some(found) = read_record(input, fields)? else {
+        return Ok(false);
+    };
+    if found.is_open {
+        return Ok(false);
+    }
+    Ok(read_record(input, beyond)?.is_none())
+}
+
 // The question that a text asks, of which nothing is read yet.
 fn read_question<R: Read + Drop>(
     alloc: Global,
     input: &mut RecordReader<R>,
     fields: &mut ByteRecord,
+    beyond: &mut ByteRecord,
 ) -> Result<Option<LogQuestion>, AllocError>
     ensures { IfOk result (λ found. (text : List ℕ) → HasReadTo R.remaining input.old (Some text) [] [] → FindsQuestion text found) }
 {
-    let Some(found) = read_record(input, fields)? else {
-        return Ok(None);
-    };
-    if found.is_open {
+    if !is_one_record(input, fields, beyond)? {
         return Ok(None);
     }
-    let question = LogQuestion::parse(alloc, fields)?;
-    match read_record(input, fields)? {
-        None => Ok(question.ok()),
-        Some(_) => Ok(None),
-    }
+    Ok(LogQuestion::parse(alloc, fields)?.ok())
 }
 
 /// The question that a text asks, if it is one record that asks one, as an argument of a command line is.
@@ -53,5 +64,6 @@ pub fn question_of(alloc: Global, text: &[u8]) -> Result<Option<LogQuestion>, Al
         return Err(AllocError);
     };
     let mut fields = ByteRecord::new(alloc);
-    read_question(alloc, &mut input, &mut fields)
+    let mut beyond = ByteRecord::new(alloc);
+    read_question(alloc, &mut input, &mut fields, &mut beyond)
 }

@@ -10,7 +10,7 @@ use crate::name_key::NameKey;
 use crate::names::Names;
 use crate::partial_log::PartialLog;
 use csv::ByteRecord;
-use hlc_csv::RecordReader;
+use hlc_csv::{RecordReader, RecordsFault};
 use hlc_stamp::MAX_CAPACITY;
 use std::alloc::Global;
 use std::io::Read;
@@ -42,7 +42,7 @@ fn read_records<R: Read + Drop>(
     }
     match input.read_record(fields)? {
         None => reading.end(rules.faults),
-        Some(_) => Err(LogTextFault::TooLong),
+        Some(_) => Err(LogTextFault::Records(RecordsFault::TooLong)),
     }
 }
 

@@ -14,6 +14,7 @@ use Rattle.hlc_open_log.specs.declared.bad_event.BadEvent.{BadEvent}
 use Rattle.hlc_open_log.specs.declared.bad_input.BadInput.TheVariants.{Events, Records}
 use Rattle.hlc_open_log.specs.declared.fault.OpenFault.{OpenFault}
 use Rattle.hlc_open_log.specs.declared.fault.OpenFault.TheVariants as fault
+use Rattle.hlc_csv.specs.declared.records_fault.RecordsFault.TheVariants as ended
 use Rattle.hlc_open_log.proofs.LinesKept.{rise_apart, rise_filled, rise_kept}
 use Rattle.hlc_open_log.proofs.NamesKept.{names_apart, names_filled, names_kept}
 use Rattle.hlc_open_log.proofs.PartsOpened.{part_all, part_rises}
@@ -43,9 +44,10 @@ pub explained : (rules : LogRules) (most : ℕ) (bytes : Option (List ℕ)) (tex
     → ExplainsOpenFault rules most bytes f
 explained rules most bytes text read (fault.Bad (Records records)) none = absurd none
 explained rules most bytes text read (fault.Bad (Events events)) none = (text, read, none)
-explained rules most bytes text read fault.Read none = absurd none
-explained rules most bytes text read fault.TooLong none = absurd none
-explained rules most bytes text read fault.Memory none = tt
+explained rules most bytes text read (fault.Records ended.Read) none = absurd none
+explained rules most bytes text read (fault.Records ended.Write) none = absurd none
+explained rules most bytes text read (fault.Records ended.TooLong) none = absurd none
+explained rules most bytes text read (fault.Records ended.Memory) none = tt
 
 -- one fault is told in one way
 pub one_text : (rule : FaultRule) (files : List FileMark) (names : List (List ℕ)) (events : List LogEvent) (told other : List BadEvent)

@@ -10,6 +10,7 @@ use Rattle.hlc_log.specs.declared.log_event.LogEvent.{LogEvent}
 use Rattle.hlc_log.specs.declared.resent.Resent.{Resent}
 use Rattle.hlc_ordered_log.specs.InOrder.{AreFilled, IsInOrder, LogInOrder}
 use Rattle.hlc_log_text.specs.Labels.{label_at}
+use Rattle.hlc_log_text.specs.LogDetails.{ToldDetails}
 use Rattle.hlc_log_text.specs.ReadLog.{IsReadWhole}
 use Rattle.hlc_log_text.specs.StampForms.{greatest_c}
 use Rattle.hlc_log_text.specs.declared.bad_log.BadLine.{BadLine}
@@ -95,6 +96,15 @@ pub record IsRestOf (rule : FaultRule) (events rest : List LogEvent) (kept : Lis
 abbrev pub IsPartOf : FaultRule → (events rest : List LogEvent) → (kept : Option (List ℕ)) → (lines : List BadLine) → Type 0
 IsPartOf rule events rest None lines = (rest ≡ events) × (lines ≡ [])
 IsPartOf rule events rest (Some kept) lines = IsRestOf rule events rest kept lines
+
+-- what a log tells beside its events, once these records are left out of it, too
+abbrev pub with_left_out : ToldDetails → (lines : List BadLine) → ToldDetails
+with_left_out details lines = record details { left_out = details.left_out ++ lines }
+
+-- a part of events is opened, and their log tells afterwards which records were left out for it
+abbrev pub IsPartOpened : FaultRule → (events rest : List LogEvent) → (kept : Option (List ℕ)) → (before after : ToldDetails) → Type 0
+IsPartOpened rule events rest kept before after =
+    (lines : List BadLine) × IsPartOf rule events rest kept lines × (after ≡ with_left_out before lines)
 
 -- labels with one at a place before them, if there is one
 abbrev pub with_label : ℕ → Option (List ℕ) → List (ℕ × List ℕ) → List (ℕ × List ℕ)

@@ -1,5 +1,5 @@
 -- Input that can't be opened.
-use Rattle.std.specs.Prelude.{◌≡◌, ◌≢◌, ◌⊎◌, ℕ, List, [], ◌∷◌, Option, Some, None, codes, map, option_map, slice_get}
+use Rattle.std.specs.Prelude.{◌≡◌, ◌≢◌, ◌⊎◌, ℕ, List, [], ◌∷◌, MatchResult, Option, Some, None, Result, codes, map, option_map, slice_get}
 use Rattle.std.specs.List.{filter_map}
 use Rattle.hlc_csv.specs.Rows.{Fields, text_of}
 use Rattle.hlc_log.specs.Events.{event_at}
@@ -13,7 +13,7 @@ use Rattle.hlc_log.specs.declared.order_fault.OrderFault.TheVariants as order
 use Rattle.hlc_log_text.specs.BadLog.{bad_log_column, bad_log_word}
 use Rattle.hlc_log_text.specs.Files.{location_of, location_text}
 use Rattle.hlc_log_text.specs.LogColumn.{column_name}
-use Rattle.hlc_log_text.specs.ReadLog.{HasTooMany, IsReadUpToBad, IsReadWhole, IsReadWithBad}
+use Rattle.hlc_log_text.specs.ReadLog.{ExplainsEnd, IsReadUpToBad, IsReadWhole, IsReadWithBad}
 use Rattle.hlc_log_text.specs.declared.bad_log.BadRecord.{BadRecord}
 use Rattle.hlc_log_text.specs.declared.fault.LogTextFault.{LogTextFault}
 use Rattle.hlc_log_text.specs.declared.fault.LogTextFault.TheVariants as text
@@ -23,7 +23,7 @@ use Rattle.hlc_log_text.specs.declared.file_mark.FileMark.{FileMark}
 use Rattle.hlc_log_text.specs.declared.location.Location.{Location}
 use Rattle.hlc_log_text.specs.declared.log_rules.LogRules.{LogRules}
 use Rattle.hlc_log_text.specs.ReadText.{ReadText}
-use Rattle.hlc_open_log.specs.Opened.{opened_events}
+use Rattle.hlc_open_log.specs.Opened.{IsOpened, OpenedLog, opened_events}
 use Rattle.hlc_open_log.specs.declared.bad_event.BadEvent.{BadEvent}
 use Rattle.hlc_open_log.specs.declared.bad_event.Disorder.{Disorder}
 use Rattle.hlc_open_log.specs.declared.bad_event.Disorder.TheVariants.{Cycle, SentTwice, Unsent}
@@ -31,6 +31,7 @@ use Rattle.hlc_open_log.specs.declared.bad_input.BadInput.{BadInput}
 use Rattle.hlc_open_log.specs.declared.bad_input.BadInput.TheVariants.{Events, Records}
 use Rattle.hlc_open_log.specs.declared.fault.OpenFault.{OpenFault}
 use Rattle.hlc_open_log.specs.declared.fault.OpenFault.TheVariants as fault
+use Rattle.hlc_csv.specs.declared.records_fault.RecordsFault.TheVariants as ended
 
 -- the word of the row of an event for which a log has no causal order
 abbrev pub disorder_word : Disorder → List ℕ
@@ -124,16 +125,13 @@ pub record HasNoOrder (rule : FaultRule) (files : List FileMark) (names : List (
 abbrev pub TellsDisorder : FaultRule → List FileMark → (names : List (List ℕ)) → List LogEvent → OpenFault → Type 0
 TellsDisorder rule files names events (fault.Bad (Records records)) = ⊥
 TellsDisorder rule files names events (fault.Bad (Events told)) = HasNoOrder rule files names events told.items
-TellsDisorder rule files names events fault.Read = ⊥
-TellsDisorder rule files names events fault.TooLong = ⊥
-TellsDisorder rule files names events fault.Memory = Unit {0}
+TellsDisorder rule files names events (fault.Records ended.Memory) = Unit {0}
+TellsDisorder rule files names events (fault.Records _) = ⊥
 
 -- a fault of reading, as one of opening
 abbrev pub read_fault : LogTextFault → OpenFault
 read_fault (text.Bad records) = fault.Bad (Records records)
-read_fault text.Read = fault.Read
-read_fault text.TooLong = fault.TooLong
-read_fault text.Memory = fault.Memory
+read_fault (text.Records why) = fault.Records why
 
 -- records of the bytes are bad, and these are told
 abbrev pub AreRecordsBad : LogRules → (most : ℕ) → (bytes : Option (List ℕ)) → List BadRecord → Type 0
@@ -153,6 +151,8 @@ IsBadInput rules most bytes (Events events) = IsOrderBad rules most bytes events
 -- what a fault tells of the bytes
 abbrev pub ExplainsOpenFault : LogRules → (most : ℕ) → (bytes : Option (List ℕ)) → OpenFault → Type 0
 ExplainsOpenFault rules most bytes (fault.Bad bad) = IsBadInput rules most bytes bad
-ExplainsOpenFault rules most bytes fault.Read = Unit {0}
-ExplainsOpenFault rules most bytes fault.TooLong = HasTooMany rules most bytes
-ExplainsOpenFault rules most bytes fault.Memory = Unit {0}
+ExplainsOpenFault rules most bytes (fault.Records why) = ExplainsEnd rules most bytes why
+
+-- the opening of the bytes as a log gave this: the log, or the fault that says why they are none
+abbrev pub IsOpening : LogRules → (most : ℕ) → (bytes : Option (List ℕ)) → Result OpenedLog OpenFault → Type 0
+IsOpening rules most bytes opening = MatchResult opening (IsOpened rules most bytes) (ExplainsOpenFault rules most bytes)

@@ -12,24 +12,19 @@ pub enum OpenFault {
     /// The input is bad.
     #[error("the input is no log")]
     Bad(BadInput),
-    /// The reader failed.
-    #[error("{}", RecordsFault::Read)]
-    Read,
-    /// A record past the last that is allowed came.
-    #[error("{}", RecordsFault::TooLong)]
-    TooLong,
-    /// A growth was refused.
-    #[error("{}", RecordsFault::Memory)]
-    Memory,
+    /// Its records are read no further: the reader failed, a record past the last that is allowed came, or a growth was refused.
+    #[error("{0}")]
+    Records(RecordsFault),
 }
 
 impl From<AllocError> for OpenFault {
-    ghost use Rattle.hlc_open_log.specs.declared.fault.OpenFault.TheVariants.{Memory};
+    ghost use Rattle.hlc_csv.specs.declared.records_fault.RecordsFault.TheVariants.{Memory};
+    ghost use Rattle.hlc_open_log.specs.declared.fault.OpenFault.TheVariants.{Records};
 
-    ghost from_gives = { λ _ e. e ≡ Memory };
+    ghost from_gives = { λ _ e. e ≡ Records Memory };
 
     fn from(_error: AllocError) -> OpenFault {
-        OpenFault::Memory
+        OpenFault::Records(RecordsFault::Memory)
     }
 }
 
@@ -41,9 +36,7 @@ impl From<LogTextFault> for OpenFault {
     fn from(fault: LogTextFault) -> OpenFault {
         match fault {
             LogTextFault::Bad(records) => OpenFault::Bad(BadInput::Records(records)),
-            LogTextFault::Read => OpenFault::Read,
-            LogTextFault::TooLong => OpenFault::TooLong,
-            LogTextFault::Memory => OpenFault::Memory,
+            LogTextFault::Records(fault) => OpenFault::Records(fault),
         }
     }
 }

@@ -9,7 +9,6 @@ use std::alloc::{AllocError, Global};
 use std::marker::Model;
 
 /// A log that was read, in a causal order, with its names.
-#[derive(Drop)]
 pub struct OpenLog {
     pub(crate) ordered: OrderedLog,
     pub(crate) details: LogDetails,
@@ -30,6 +29,20 @@ impl Model for OpenLog {
     ghost view = { opened_of };
 
     ghost invariant = { λ a. IsOpen (opened_of a) };
+}
+
+// One function drops it, so that whoever owns a log has one call on each way out.
+impl Drop for OpenLog {
+    fn drop(self) {
+        let Self {
+            ordered: _,
+            details: _,
+            kept: _,
+            unsent: _,
+            resent: _,
+            full: _,
+        } = self;
+    }
 }
 
 // Where the event at a place stood in the log that was read, if only those at the kept places are opened.

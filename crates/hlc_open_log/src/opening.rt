@@ -1,6 +1,6 @@
 // How a log is opened.
 
-ghost use Rattle.std.specs.Prelude.{◌≡◌, ℕ, ◌*◌, ◌<◌, ◌≤◌, All, IfErr, IfOk, MatchBool, None, OnOk, Some, if◌then◌else◌, length, map, option_map};
+ghost use Rattle.std.specs.Prelude.{◌≡◌, ℕ, ◌*◌, ◌<◌, ◌≤◌, All, IfErr, IfOk, List, MatchBool, None, OnOk, Some, if◌then◌else◌, length, map, option_map};
 ghost use Rattle.std.specs.List.{filter_map};
 ghost use Rattle.hlc_stamp.specs.Ids.{places_of};
 ghost use Rattle.hlc_log.specs.CausalOrder.{IsCausalOrder, Waits};
@@ -9,18 +9,19 @@ ghost use Rattle.hlc_log.specs.Faults.{IsFaultOf};
 ghost use Rattle.hlc_log.specs.Messages.{AreMessagesSound};
 ghost use Rattle.hlc_log.specs.Unsent.{unsent_count, with_unsent};
 ghost use Rattle.hlc_ordered_log.specs.InOrder.{AreOfNodes};
-ghost use Rattle.hlc_open_log.specs.Opened.{IsOpened, IsOpenedOf, IsOrderedOf, IsPartOf, cycle_line, opened_events, resent_apart, resent_of};
+ghost use Rattle.hlc_open_log.specs.Opened.{IsOpened, IsOpenedOf, IsOrderedOf, IsPartOpened, cycle_line, opened_events, resent_apart, resent_of, unsent_of, with_left_out};
 ghost use Rattle.hlc_open_log.specs.Unopened.{ExplainsOpenFault, IsRefused, TellsDisorder, bad_event, disorder_of, message_name, order_fault_place, told_faults};
 
 use crate::bad_event::{BadEvent, Disorder};
 use crate::bad_input::BadInput;
 use crate::fault::OpenFault;
 use crate::opened_log::OpenLog;
+use hlc_csv::RecordsFault;
 use hlc_log::{
     Log, LogKind, MAX_LOG_NODES, OrderFault, Parted, causal_order, faults_of_messages, part,
 };
 use hlc_log_text::{
-    BadLine, BadLog, FaultRule, Files, LogRules, LogText, NameKey, Names, read_log,
+    BadLine, BadLog, FaultRule, Files, LogDetails, LogRules, LogText, NameKey, Names, read_log,
 };
 use hlc_ordered_log::OrderedLog;
 use hlc_pages::Bytes;
@@ -207,21 +208,20 @@ fn fault_of(
     ensures { TellsDisorder rule files.now names.now log.now.events result }
 {
     if fault == OrderFault::Memory {
-        return OpenFault::Memory;
+        return OpenFault::Records(RecordsFault::Memory);
     }
     match bad_order(alloc, log, files, names, messages, rule, fault) {
         Ok(events) => OpenFault::Bad(BadInput::Events(events)),
-        Err(_) => OpenFault::Memory,
+        Err(_) => OpenFault::Records(RecordsFault::Memory),
     }
 }
 
-// Events that are opened of a log, with a causal order of them; if they aren't all, their places in it, and the records of the others.
+// Events that are opened of a log, with a causal order of them; if they aren't all, their places in it.
 #[derive(Drop)]
 struct Part {
     log: Log,
     order: Vec<EventId>,
     kept: Option<Vec<EventId>>,
-    left_out: Vec<BadLine>,
 }
 
 // The records of the events at these places, which wait.
@@ -239,21 +239,42 @@ fn cycle_lines(alloc: Global, log: &Log, places: &[EventId]) -> Result<Vec<BadLi
     Ok(lines)
 }
 
-// The events of a log that have a place in some causal order. Some have none.
-fn without_cycles(alloc: Global, log: &Log, messages: u32) -> Result<Part, OpenFault>
+// Leaves the records of the events at these places out, which wait.
+fn leave_cycles_out(
+    alloc: Global,
+    log: &Log,
+    places: &[EventId],
+    details: &mut LogDetails,
+) -> Result<(), AllocError>
+    requires { All (λ place. place.0 < length log.now.events) places.now }
+    ensures { OnOk result (details.new ≡ with_left_out details.old (map (cycle_line log.now.events) (places_of places.now))) }
+{
+    let lines = cycle_lines(alloc, log, places)?;
+    details.leave_out(&lines)
+}
+
+// The events of a log that have a place in some causal order. Some have none: their records are left out.
+fn without_cycles(
+    alloc: Global,
+    log: &Log,
+    details: &mut LogDetails,
+    messages: u32,
+) -> Result<Part, OpenFault>
     requires numbered { All (IsNumbered messages) log.now.events }
     requires sound { AreMessagesSound log.now.events }
     requires waits { (e : ℕ) × Waits log.now.events e }
-    ensures part { IfOk result (λ part. IsPartOf FaultRule.LeaveOut log.now.events part.log.events
-        (option_map (λ kept. places_of kept.items) part.kept) part.left_out.items) }
+    ensures part { IfOk result (λ part. IsPartOpened FaultRule.LeaveOut log.now.events part.log.events
+        (option_map (λ kept. places_of kept.items) part.kept) details.old details.new) }
     ensures order { IfOk result (λ part. IsCausalOrder part.log.events (places_of part.order.items)) }
     ensures kept_sound { IfOk result (λ part. AreMessagesSound part.log.events) }
-    ensures memory { IfErr result (λ fault. fault ≡ OpenFault.Memory) }
+    ensures memory { IfErr result (λ fault. fault ≡ OpenFault.Records RecordsFault.Memory) }
 {
     let Ok(parted) = part(alloc, log, messages) else {
-        return Err(OpenFault::Memory);
+        return Err(OpenFault::Records(RecordsFault::Memory));
     };
-    let left_out = cycle_lines(alloc, log, &parted.left_out)?;
+    let Ok(()) = leave_cycles_out(alloc, log, &parted.left_out, details) else {
+        return Err(OpenFault::Records(RecordsFault::Memory));
+    };
     let Parted {
         log,
         order,
@@ -264,7 +285,6 @@ fn without_cycles(alloc: Global, log: &Log, messages: u32) -> Result<Part, OpenF
         log,
         order,
         kept: Some(kept),
-        left_out,
     })
 }
 
@@ -278,37 +298,88 @@ fn is_left_out(rule: FaultRule, fault: OrderFault) -> bool
     }
 }
 
+// What is opened of a log that has this fault, if the rule says so.
+fn part_without(
+    alloc: Global,
+    log: &Log,
+    details: &mut LogDetails,
+    names: &Names,
+    messages: u32,
+    rule: FaultRule,
+    fault: OrderFault,
+) -> Result<Part, OpenFault>
+    requires fault { IsFaultOf log.now.events fault }
+    requires numbered { All (IsNumbered messages) log.now.events }
+    ensures part { IfOk result (λ part. IsPartOpened rule log.now.events part.log.events
+        (option_map (λ kept. places_of kept.items) part.kept) details.old details.new) }
+    ensures order { IfOk result (λ part. IsCausalOrder part.log.events (places_of part.order.items)) }
+    ensures sound { IfOk result (λ part. AreMessagesSound part.log.events) }
+    ensures fault { IfErr result (TellsDisorder rule details.old.files names.now log.now.events) }
+{
+    if is_left_out(rule, fault) {
+        return without_cycles(alloc, log, details, messages);
+    }
+    let files = details.files();
+    Err(fault_of(alloc, log, files, names, messages, rule, fault))
+}
+
 // What is opened of a log, whose messages have these names. No one needs the names after it, so their memory is given back.
 fn part_of(
     alloc: Global,
     log: Log,
-    files: &Files,
+    details: &mut LogDetails,
     names: Names,
     messages: u32,
     rule: FaultRule,
 ) -> Result<Part, OpenFault>
     requires { All (IsNumbered messages) log.events }
-    ensures part { IfOk result (λ part. IsPartOf rule log.events part.log.events
-        (option_map (λ kept. places_of kept.items) part.kept) part.left_out.items) }
+    ensures part { IfOk result (λ part. IsPartOpened rule log.events part.log.events
+        (option_map (λ kept. places_of kept.items) part.kept) details.old details.new) }
     ensures order { IfOk result (λ part. IsCausalOrder part.log.events (places_of part.order.items)) }
     ensures sound { IfOk result (λ part. AreMessagesSound part.log.events) }
-    ensures fault { IfErr result (TellsDisorder rule files.now names log.events) }
+    ensures fault { IfErr result (TellsDisorder rule details.old.files names log.events) }
 {
     match causal_order(alloc, &log, messages) {
         Ok(order) => Ok(Part {
             log,
             order,
             kept: None,
-            left_out: Vec::new(alloc),
         }),
-        Err(fault) => {
-            if is_left_out(rule, fault) {
-                without_cycles(alloc, &log, messages)
-            } else {
-                Err(fault_of(alloc, &log, files, &names, messages, rule, fault))
-            }
-        }
+        Err(fault) => part_without(alloc, &log, details, &names, messages, rule, fault),
     }
+}
+
+// Below which number the messages of a log are once its events may be put in order, how many receives were taken as local events for that, and how
+// many sends sent a message again.
+#[derive(Clone, Copy)]
+struct Taken {
+    messages: u32,
+    unsent: Option<u32>,
+    resent: Option<u32>,
+}
+
+// Takes messages that are sent again, and receives of messages that nobody sends, as the rules say.
+fn take_messages(
+    alloc: Global,
+    log: &mut Log,
+    messages: u32,
+    rules: LogRules,
+) -> Result<Taken, AllocError>
+    requires few { messages ≤ 2 * MAX_CAPACITY }
+    requires numbered { All (IsNumbered messages) log.old.events }
+    ensures events { OnOk result (log.new.events ≡ opened_events rules messages log.old.events) }
+    ensures resent { IfOk result (λ taken. taken.resent ≡ resent_of rules.resent log.old.events) }
+    ensures unsent { IfOk result (λ taken. taken.unsent ≡ unsent_of rules messages log.old.events) }
+    ensures numbered { IfOk result (λ taken. All (IsNumbered taken.messages) log.new.events) }
+    ensures in_range { OnOk result (All IsInRange log.old.events → All IsInRange log.new.events) }
+{
+    let (messages, resent) = take_resent(alloc, log, messages, rules)?;
+    let unsent = take_unsent(alloc, log, messages, rules)?;
+    Ok(Taken {
+        messages,
+        unsent,
+        resent,
+    })
 }
 
 // A log in a causal order, with what was done to its events before.
@@ -316,47 +387,49 @@ fn part_of(
 struct Ordered {
     log: OrderedLog,
     kept: Option<Vec<EventId>>,
-    left_out: Vec<BadLine>,
     unsent: Option<u32>,
     resent: Option<u32>,
 }
 
-// The log with its events in a causal order, which of them were left out, how many receives were taken as local events, and how many sends sent a
-// message again. Its messages have these names.
+// The log with its events in a causal order, how many receives were taken as local events, and how many sends sent a message again. Its messages have
+// these names. The records of events that were left out are told among its details.
 fn in_order(
     alloc: Global,
     mut log: Log,
-    files: &Files,
+    details: &mut LogDetails,
     names: Names,
     messages: u32,
-    nodes: u16,
     rules: LogRules,
 ) -> Result<Ordered, OpenFault>
-    requires few { nodes ≤ MAX_LOG_NODES }
+    requires few { length details.old.nodes ≤ MAX_LOG_NODES }
     requires messages { messages ≤ 2 * MAX_CAPACITY }
-    requires named { AreOfNodes nodes log.events }
+    requires named { AreOfNodes (length details.old.nodes) log.events }
     requires numbered { All (IsNumbered messages) log.events }
     requires in_range { All IsInRange log.events }
-    ensures nodes { IfOk result (λ ordered. ordered.log.nodes ≡ nodes) }
-    ensures ordered { IfOk result (λ ordered. IsOrderedOf rules messages log.events
-        (option_map (λ kept. places_of kept.items) ordered.kept) ordered.left_out.items ordered.log ordered.unsent ordered.resent) }
-    ensures fault { IfErr result (TellsDisorder rules.faults files.now names (opened_events rules messages log.events)) }
+    ensures nodes { IfOk result (λ ordered. ordered.log.nodes ≡ length details.old.nodes) }
+    ensures ordered { IfOk result (λ ordered. (lines : List BadLine) × IsOrderedOf rules messages log.events
+        (option_map (λ kept. places_of kept.items) ordered.kept) lines ordered.log ordered.unsent ordered.resent
+        × (details.new ≡ with_left_out details.old lines)) }
+    ensures fault { IfErr result (TellsDisorder rules.faults details.old.files names (opened_events rules messages log.events)) }
 {
-    let (messages, resent) = take_resent(alloc, &mut log, messages, rules)?;
-    let unsent = take_unsent(alloc, &mut log, messages, rules)?;
-    let Part {
+    let Ok(taken) = take_messages(alloc, &mut log, messages, rules) else {
+        return Err(OpenFault::Records(RecordsFault::Memory));
+    };
+    let nodes = details.nodes().len() as u16;
+    let Part { log, order, kept } = part_of(
+        alloc,
         log,
-        order,
-        kept,
-        left_out,
-    } = part_of(alloc, log, files, names, messages, rules.faults)?;
-    let log = OrderedLog::new(alloc, log, order, messages, nodes, rules.receives)?;
+        details,
+        names,
+        taken.messages,
+        rules.faults,
+    )?;
+    let log = OrderedLog::new(alloc, log, order, taken.messages, nodes, rules.receives)?;
     Ok(Ordered {
         log,
         kept,
-        left_out,
-        unsent,
-        resent,
+        unsent: taken.unsent,
+        resent: taken.resent,
     })
 }
 
@@ -367,22 +440,18 @@ fn open_text(alloc: Global, text: LogText, rules: LogRules) -> Result<OpenLog, O
 {
     let messages = text.messages();
     let (log, message_names, mut details) = text.into_parts();
-    let ordered = in_order(
-        alloc,
+    let Ordered {
         log,
-        details.files(),
-        message_names,
-        messages,
-        details.nodes().len() as u16,
-        rules,
-    )?;
-    details.leave_out(&ordered.left_out)?;
+        kept,
+        unsent,
+        resent,
+    } = in_order(alloc, log, &mut details, message_names, messages, rules)?;
     Ok(OpenLog {
-        ordered: ordered.log,
+        ordered: log,
         details,
-        kept: ordered.kept,
-        unsent: ordered.unsent,
-        resent: ordered.resent,
+        kept,
+        unsent,
+        resent,
         full: rules.form.full(),
     })
 }

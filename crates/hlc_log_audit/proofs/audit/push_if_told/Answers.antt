@@ -1,21 +1,17 @@
 use Rattle.std.proofs.Common.{◌≡◌, ◌++◌, ◌∙◌, Bool, true, List, ap, subst, sym}
 use Rattle.std.proofs.lemmas.Result.{on_ok_weaker}
-use Rattle.hlc_ordered_log.specs.Messages.{message_counts}
 use Rattle.hlc_log_text.specs.declared.question.LogQuestion.{LogQuestion}
 use Rattle.hlc_log_audit.specs.Audit.{IsReportIf, all_asked, is_reported, missing_rows, taken_rows}
 use Rattle.hlc_log_audit.specs.LeftOut.{left_out_rows}
 use Rattle.hlc_log_text.proofs.RowsAdded.{adds_joined}
 use Rattle.hlc_log_audit.proofs.audit.push_if_told.Goals as goal
 
-pub push_report-requires-clause-messages : goal.push_report-requires-clause-messages
-push_report-requires-clause-messages g c = c.count_messages.ensures ∙ ap message_counts c.ordered-ordered.ensures.value
-
 pub returns : goal.returns
 returns g c =
     let log = c.args.log.now in
     let ordered = c.ordered-ordered.ensures.value in
     let limit = c.args.rules.limit in
-    let report = c.in_ok-push_report.ensures in
+    let report = c.in_ok-push_counted_report.ensures in
     let taken = taken_rows c.unsent.result c.resent.result in
     let missing = missing_rows c.files-files.result.now c.ordered-ordered.result.now.events c.skipped.result in
     let before = adds_joined _ _ _ _ _ _ (report.0 ++ taken) missing

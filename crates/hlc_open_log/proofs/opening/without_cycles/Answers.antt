@@ -2,12 +2,12 @@ use Rattle.std.proofs.Common.{List, ◌<◌, ◌∙◌, ap, length, map, refl, s
 use Rattle.std.specs.Prelude.{All}
 use Rattle.hlc_stamp.specs.declared.id.EventId.{EventId}
 use Rattle.hlc_stamp.specs.Ids.{places_of}
-use Rattle.hlc_open_log.specs.Opened.{cycle_line}
+use Rattle.hlc_open_log.specs.Opened.{cycle_line, with_left_out}
 use Rattle.hlc_open_log.proofs.PartsOpened.{left_exist, some_left}
 use Rattle.hlc_open_log.proofs.opening.without_cycles.Goals as goal
 
-pub cycle_lines-requires : goal.cycle_lines-requires
-cycle_lines-requires c =
+pub leave_cycles_out-requires : goal.leave_cycles_out-requires
+leave_cycles_out-requires c =
     let events = c.args.log.now.events in
     let left_out = c.in-Ok.parted.left_out.items in
     subst (λ (places : List EventId). All (λ place. place.0 < length events) places) (sym c.deref.ensures.value)
@@ -19,12 +19,16 @@ returns-clause-part c =
     let kept = places_of c.in-Ok.parted.kept.items in
     let left_out = places_of c.in-Ok.parted.left_out.items in
     let parted = c.in-Ok.ensures.parted in
-    let waits = c.requires.waits in
-    record {
-      leaves = refl;
-      left_out = left_out;
-      parted = parted;
-      some = some_left events kept left_out parted waits.0 waits.1;
-      rest_are = c.in-Ok.ensures.events;
-      lines_are = c.in_ok-left_out.ensures ∙ ap (λ (ids : List EventId). map (cycle_line events) (places_of ids)) c.deref.ensures.value;
-    }
+    let waits = c.requires.waits in (
+      map (cycle_line events) left_out,
+      record {
+        leaves = refl;
+        left_out = left_out;
+        parted = parted;
+        some = some_left events kept left_out parted waits.0 waits.1;
+        rest_are = c.in-Ok.ensures.events;
+        lines_are = refl;
+      },
+      c.in-Ok-leave_cycles_out.ensures
+          ∙ ap (λ (ids : List EventId). with_left_out c.args.details.now (map (cycle_line events) (places_of ids))) c.deref.ensures.value,
+    )
