@@ -8,8 +8,8 @@
 //!   none of them is an event, or a log that is audited has none (`NoEvents`).
 //! - `report` writes the line of a fault.
 //!
-//! The commands stand in crates of their own, for callers that have no command line: those of scripts in `hlc_script_commands`, those of
-//! logs in `hlc_log_commands`, and the one of threads in `hlc_script_commands`. What stops one is a `CommandFault`. What a command line
+//! The commands stand in crates of their own, for callers that have no command line: those of scripts and of threads in
+//! `hlc_script_commands`, those of logs in `hlc_log_commands`. What stops one is a `CommandFault`. What a command line
 //! asks for is found by `order`.
 //!
 //! Status 0 says that the arguments were performed, 2 that they were mistaken, 3 that the stamps of a log are broken or over the limit, 4
