@@ -1,6 +1,7 @@
 -- The members of the object that an audit is written as, and what the rows of each tell.
-use Rattle.std.specs.Prelude.{◌||◌, ℕ, Bool, List, [], ◌∷◌, bytes_eq, codes, find, if◌then◌else◌, unwrap_or}
+use Rattle.std.specs.Prelude.{◌||◌, ℕ, List, [], ◌∷◌, bytes_eq, codes, find, if◌then◌else◌, unwrap_or}
 use Rattle.hlc_csv.specs.Rows.{Fields, field_of}
+use Rattle.hlc_audit_forms.specs.AnswerRow.{answer_columns}
 use Rattle.hlc_audit_forms.specs.declared.json_column.JsonColumn.{JsonColumn}
 use Rattle.hlc_audit_forms.specs.declared.json_column.JsonColumn.TheVariants as column
 use Rattle.hlc_audit_forms.specs.declared.json_member.JsonMember.{JsonMember}
@@ -45,20 +46,6 @@ cause_columns rule =
     else if bytes_eq rule (codes "carried") then column.Row ∷ column.Line ∷ column.Node ∷ column.Rule ∷ column.Send ∷ []
     else column.Row ∷ column.Line ∷ column.Node ∷ column.Rule ∷ []
 
--- the columns of an answer, by its word
-abbrev pub answer_columns : (word : List ℕ) → List JsonColumn
-answer_columns word =
-    if bytes_eq word (codes "chain") || bytes_eq word (codes "claimed") then column.Row ∷ column.Line ∷ column.L ∷ column.C ∷ []
-    else if bytes_eq word (codes "path") then column.Row ∷ column.Line ∷ column.Other ∷ []
-    else if bytes_eq word (codes "check") then column.Row ∷ column.Line ∷ column.IsChain ∷ []
-    else if bytes_eq word (codes "relation") then column.Row ∷ column.Line ∷ column.Other ∷ column.How ∷ []
-    else if bytes_eq word (codes "influenced") || bytes_eq word (codes "tainted") then column.Row ∷ column.Line ∷ []
-    else if bytes_eq word (codes "first") then column.Row ∷ column.Node ∷ column.Rule ∷ column.Line ∷ []
-    else if bytes_eq word (codes "drift") then column.Row ∷ column.Node ∷ column.Ahead ∷ column.Line ∷ column.Origin ∷ []
-    else if bytes_eq word (codes "event") then column.Row ∷ column.Line ∷ column.Node ∷ column.Reading ∷ column.L ∷ column.C
-    ∷ column.LeastL ∷ column.LeastC ∷ column.Verdict ∷ column.Label ∷ []
-    else column.Row ∷ column.Why ∷ []
-
 -- the columns of a row of a member
 abbrev pub member_columns : JsonMember → Fields → List JsonColumn
 member_columns member.Bad fields = bad_columns (field_of fields 2)
@@ -78,9 +65,3 @@ member_columns member.LeftOut fields = column.Row ∷ column.Word ∷ column.N �
 member_columns member.Over fields = column.Row ∷ column.Node ∷ column.N ∷ column.Line ∷ column.Ahead ∷ column.Origin ∷ []
 member_columns member.Answers fields = answer_columns (field_of fields 0)
 member_columns member.Group fields = column.Row ∷ column.Node ∷ column.Rule ∷ column.Of ∷ column.N ∷ column.Line ∷ []
-
--- whether the fields of a row after those of its columns are lines, by its word
-abbrev pub lists_lines : List ℕ → Bool
-lists_lines word =
-    bytes_eq word (codes "chain") || bytes_eq word (codes "influenced") || bytes_eq word (codes "claimed") || bytes_eq word (codes "path")
-    || bytes_eq word (codes "tainted")

@@ -4,7 +4,8 @@ use Rattle.std.specs.List.{join_with_byte}
 use Rattle.hlc_csv.specs.Rows.{Fields, field_of}
 use Rattle.hlc_audit_forms.specs.ToldRows.{AreRowsOf}
 use Rattle.hlc_audit_forms.specs.JsonColumn.{member_text}
-use Rattle.hlc_audit_forms.specs.JsonMember.{lists_lines, member_columns, member_name, member_of_word}
+use Rattle.hlc_audit_forms.specs.AnswerRow.{lists_lines}
+use Rattle.hlc_audit_forms.specs.JsonMember.{member_columns, member_name, member_of_word}
 use Rattle.hlc_audit_forms.specs.JsonText.{comma_before, json_list, json_member, json_object, json_string}
 use Rattle.hlc_audit_forms.specs.declared.json_column.JsonColumn.{JsonColumn}
 use Rattle.hlc_audit_forms.specs.declared.json_member.JsonMember.{JsonMember}

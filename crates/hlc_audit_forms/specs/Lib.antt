@@ -1,3 +1,4 @@
+pub mod AnswerRow
 pub mod AuditText
 pub mod Hex
 pub mod JsonColumn

@@ -1,6 +1,7 @@
 -- What is said of a row, by its word.
 use Rattle.std.specs.Prelude.{◌&&◌, ◌||◌, ◌+◌, ℕ, Bool, List, [], ◌∷◌, ◌++◌, bytes_eq, codes, if◌then◌else◌, length, nat_lt}
 use Rattle.hlc_csv.specs.Rows.{Fields, field_of}
+use Rattle.hlc_audit_forms.specs.AnswerRow.{is_answer}
 use Rattle.hlc_audit_forms.specs.TextPiece.{ToldPiece, left, line, plain, rest, right, said}
 use Rattle.hlc_audit_forms.specs.declared.text_section.TextSection.{TextSection}
 use Rattle.hlc_audit_forms.specs.declared.text_section.TextSection.TheVariants as section
@@ -22,13 +23,6 @@ section_word section.Unread = codes "unread"
 section_word section.Unstamped = codes "unstamped"
 section_word section.Units = codes "units"
 section_word section.Answers = []
-
--- whether a word is one of a row that answers a question
-abbrev pub is_answer : List ℕ → Bool
-is_answer word =
-    bytes_eq word (codes "chain") || bytes_eq word (codes "check") || bytes_eq word (codes "relation") || bytes_eq word (codes "influenced")
-    || bytes_eq word (codes "drift") || bytes_eq word (codes "claimed") || bytes_eq word (codes "event") || bytes_eq word (codes "path")
-    || bytes_eq word (codes "tainted") || bytes_eq word (codes "first") || bytes_eq word (codes "refused")
 
 -- whether the rows of a word are those of a section: below a group stand its first places
 abbrev pub has_word : TextSection → List ℕ → Bool

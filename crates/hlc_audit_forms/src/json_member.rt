@@ -1,8 +1,9 @@
 ghost use Rattle.std.specs.Prelude.{◌≡◌};
 ghost use Rattle.hlc_csv.specs.Rows.{field_of};
 ghost use Rattle.csv.specs.Records.{fields_of};
-ghost use Rattle.hlc_audit_forms.specs.JsonMember.{answer_columns, bad_columns, cause_columns, lists_lines, member_columns, member_name, member_of_word};
+ghost use Rattle.hlc_audit_forms.specs.JsonMember.{bad_columns, cause_columns, member_columns, member_name, member_of_word};
 
+use crate::answer_row::answer_columns;
 use crate::json_column::JsonColumn;
 use csv::ByteRecord;
 use hlc_csv::field;
@@ -77,48 +78,6 @@ fn cause_columns(rule: &[u8]) -> &'static [JsonColumn]
     } else {
         &[Row, Line, Node, Rule]
     }
-}
-
-// The columns of an answer, by its word.
-fn answer_columns(word: &[u8]) -> &'static [JsonColumn]
-    ensures { result.now ≡ answer_columns word.now }
-{
-    use JsonColumn::{
-        Ahead, C, How, IsChain, L, Label, LeastC, LeastL, Line, Node, Origin, Other, Reading, Row,
-        Rule, Verdict, Why,
-    };
-    if word == b"chain".as_slice() || word == b"claimed".as_slice() {
-        &[Row, Line, L, C]
-    } else if word == b"path".as_slice() {
-        &[Row, Line, Other]
-    } else if word == b"check".as_slice() {
-        &[Row, Line, IsChain]
-    } else if word == b"relation".as_slice() {
-        &[Row, Line, Other, How]
-    } else if word == b"influenced".as_slice() || word == b"tainted".as_slice() {
-        &[Row, Line]
-    } else if word == b"first".as_slice() {
-        &[Row, Node, Rule, Line]
-    } else if word == b"drift".as_slice() {
-        &[Row, Node, Ahead, Line, Origin]
-    } else if word == b"event".as_slice() {
-        &[
-            Row, Line, Node, Reading, L, C, LeastL, LeastC, Verdict, Label,
-        ]
-    } else {
-        &[Row, Why]
-    }
-}
-
-// Whether the fields of a row after those of its columns are lines, by its word.
-pub(crate) fn lists_lines(word: &[u8]) -> bool
-    ensures { result ≡ lists_lines word.now }
-{
-    word == b"chain".as_slice()
-        || word == b"influenced".as_slice()
-        || word == b"claimed".as_slice()
-        || word == b"path".as_slice()
-        || word == b"tainted".as_slice()
 }
 
 impl JsonMember {

@@ -7,8 +7,9 @@ ghost use Rattle.csv.specs.Records.{fields_of};
 ghost use Rattle.hlc_audit_forms.specs.JsonRows.{IsJsonOf, column_members, is_row_of, json_text, lines_behind, lines_from, lines_member, members_text, row_columns, row_member, row_object, rows_member};
 ghost use Rattle.hlc_audit_forms.specs.JsonText.{json_string};
 
+use crate::answer_row::lists_lines;
 use crate::json_column::{JsonColumn, put_member};
-use crate::json_member::{JsonMember, MEMBERS, lists_lines};
+use crate::json_member::{JsonMember, MEMBERS};
 use crate::json_text::{put_comma, put_name, put_string};
 use crate::output::write_whole;
 use crate::rows::told_rows;

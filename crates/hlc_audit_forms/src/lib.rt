@@ -16,6 +16,7 @@
 //! bytes above 127, as if each were a character.
 #![tactic(auto)]
 
+mod answer_row;
 mod audit_text;
 mod hex;
 mod json_column;

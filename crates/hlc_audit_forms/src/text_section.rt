@@ -1,5 +1,7 @@
 ghost use Rattle.std.specs.Prelude.{◌≡◌};
-ghost use Rattle.hlc_audit_forms.specs.TextSection.{has_word, is_answer, section_title, section_word};
+ghost use Rattle.hlc_audit_forms.specs.TextSection.{has_word, section_title, section_word};
+
+use crate::answer_row::is_answer;
 
 // A part of the text, with the rows of a word.
 #[derive(Clone, Copy)]
@@ -41,23 +43,6 @@ pub(crate) const SECTIONS: [TextSection; 15] = [
     TextSection::Skew,
     TextSection::Answers,
 ];
-
-// Whether a word is one of a row that answers a question.
-fn is_answer(word: &[u8]) -> bool
-    ensures { result ≡ is_answer word.now }
-{
-    word == b"chain".as_slice()
-        || word == b"check".as_slice()
-        || word == b"relation".as_slice()
-        || word == b"influenced".as_slice()
-        || word == b"drift".as_slice()
-        || word == b"claimed".as_slice()
-        || word == b"event".as_slice()
-        || word == b"path".as_slice()
-        || word == b"tainted".as_slice()
-        || word == b"first".as_slice()
-        || word == b"refused".as_slice()
-}
 
 impl TextSection {
     // Whether the rows of a word are its own.

@@ -4,7 +4,7 @@ use Rattle.std.proofs.lemmas.Result.{on_ok_weaker}
 use Rattle.csv.specs.Records.{fields_of}
 use Rattle.hlc_csv.specs.Rows.{field_of}
 use Rattle.hlc_csv.proofs.RowTextFacts.{on_ok-added}
-use Rattle.hlc_audit_forms.specs.JsonMember.{lists_lines}
+use Rattle.hlc_audit_forms.specs.AnswerRow.{lists_lines}
 use Rattle.hlc_audit_forms.specs.JsonRows.{column_members, lines_behind, lines_from, lines_member, row_columns, row_object}
 use Rattle.hlc_audit_forms.proofs.CommaLists.{join-behind, object-closed}
 use Rattle.hlc_audit_forms.proofs.json_rows.put_row.Goals as goal
