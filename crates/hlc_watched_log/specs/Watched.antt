@@ -168,6 +168,21 @@ abbrev pub counts_after : WatchRules → WatchCounts → (complete : List Record
 counts_after rules before complete event =
     with_found (with_kind before event.kind) (list_any (is_broken (greatest_c rules.records.form)) complete) (is_over rules.limit (claimed_ahead event))
 
+-- what is kept, once an event more is counted, whose node has this name; and once it is watched, whose message has this one
+abbrev pub with_counted : WatchedLog → (node : List ℕ) → LogEvent → WatchedLog
+with_counted log node event = record log {
+  names = record { nodes = with_name log.names.nodes node; files = log.names.files };
+  tallies = tallies_after log.tallies (line_here log.files) event;
+  events = log.events + 1;
+}
+
+abbrev pub with_watched : WatchRules → WatchedLog → (message : List ℕ) → LogEvent → WatchedLog
+with_watched rules log message event = record log {
+  kept = after_event log.kept (ruled_by rules.records.receives log.files.current event) message;
+  skews = skews_after log.skews (complete_next rules log event message);
+  counts = counts_after rules log.counts (complete_next rules log event message) event;
+}
+
 -- what is kept, with an event more, whose node and message have these names
 abbrev pub with_event : WatchRules → WatchedLog → (node message : List ℕ) → LogEvent → WatchedLog
 with_event rules log node message event = record {

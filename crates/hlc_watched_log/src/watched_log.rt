@@ -26,7 +26,7 @@ use hlc_log_text::{
     BadLog, Extras, NODE_PLACE, NameKey, NameSet, NodeNames, RecordHead, RecordItem,
 };
 use hlc_stamp::NodeId;
-use hlc_watch::{Complete, RuledEvent, Watch};
+use hlc_watch::{Complete, FileLine, RuledEvent, Watch};
 use std::alloc::{AllocError, Global};
 use std::collections::BTreeMap;
 use std::io::Write;
@@ -34,7 +34,6 @@ use std::marker::Model;
 
 // The names of nodes and files, where the lines of these stand, what is counted of each node, how many events came, what is kept of these, and the
 // skews that they show.
-#[derive(Drop)]
 pub(crate) struct LogWatch {
     names: LogNames,
     files: FileLines,
@@ -44,6 +43,22 @@ pub(crate) struct LogWatch {
     skews: ShownSkews,
     counts: WatchCounts,
     alloc: Global,
+}
+
+// One function drops it, so that whoever owns it has one call on each way out.
+impl Drop for LogWatch {
+    fn drop(self) {
+        let LogWatch {
+            names: _,
+            files: _,
+            tallies: _,
+            events: _,
+            watch: _,
+            skews: _,
+            counts: _,
+            alloc: _,
+        } = self;
+    }
 }
 
 impl Model for LogWatch {
@@ -88,10 +103,10 @@ impl LogWatch {
     ghost use Rattle.csv.specs.Records.{fields_of};
     ghost use Rattle.hlc_log.specs.Events.{IsSmallCarried};
     ghost use Rattle.hlc_log_text.specs.LogHeader.{HasSmallCarried, IsSmallTold};
-    ghost use Rattle.hlc_watched_log.specs.Taken.{IsWhole, Takes, TakesEvent, TakesItem};
+    ghost use Rattle.hlc_watched_log.specs.Taken.{IsWhole, Takes, TakesEvent, TakesItem, complete_in};
     ghost use Rattle.hlc_watched_log.specs.Files.{line_here};
     ghost use Rattle.hlc_watched_log.specs.Numbers.{name_number};
-    ghost use Rattle.hlc_watched_log.specs.Watched.{bad_row, complete_next, due_rows, event_by, event_rows, in_file, no_events, on_line, summary_rows, with_event, without_bad};
+    ghost use Rattle.hlc_watched_log.specs.Watched.{bad_row, complete_next, due_rows, event_by, event_rows, in_file, is_told, no_events, on_line, summary_rows, with_counted, with_event, with_watched, without_bad};
 
     // Nothing came.
     pub(crate) fn new(
@@ -199,6 +214,98 @@ impl LogWatch {
         self.names.nodes.number(name).unwrap_or(count)
     }
 
+    // Counts an event on this line, whose node has this name and number, and gives it by numbers.
+    fn count_event(
+        &mut self,
+        head: &RecordHead,
+        extras: &Extras,
+        line: FileLine,
+        node: &[u8],
+        number: usize,
+    ) -> Result<LogEvent, AllocError>
+        requires number { number ≡ name_number self.old.names.nodes node.now }
+        requires few { number < MAX_LOG_NODES }
+        requires whole { IsWhole self.old }
+        requires room { self.old.events < 2 ^ 32 - 1 }
+        requires here { line ≡ line_here self.old.files }
+        ensures event { IfOk result (λ event. event ≡ event_by self.old head.now extras.now node.now) }
+        ensures counted { IfOk result (λ event. self.new ≡ with_counted self.old node.now event) }
+        ensures whole { OnOk result (IsWhole self.new) }
+    {
+        add_node(&mut self.names.nodes, &mut self.tallies, node, number)?;
+        let event = LogEvent {
+            node: NodeId(number as u16),
+            reading: head.reading,
+            has_reading: head.has_reading,
+            kind: kind_of(head.word),
+            stamp: head.stamp,
+            has_stamp: head.has_stamp,
+            carried: extras.carried,
+            seq: extras.seq,
+            line: line.number,
+        };
+        self.events += 1;
+        self.tallies[number].take(line, &event);
+        Ok(event)
+    }
+
+    // Watches an event of the file with this number, whose message has this name: finds what is complete with it, and answers whether there is a row
+    // of that.
+    fn watch_event(
+        &mut self,
+        rules: &WatchRules,
+        file: u32,
+        event: &LogEvent,
+        message: &[u8],
+        complete: &mut Complete,
+    ) -> Result<bool, AllocError>
+        requires small { IsSmallCarried event.now.carried }
+        requires here { file ≡ self.old.files.current }
+        ensures complete { OnOk result (complete_in complete.new ≡ complete_next rules.now self.old event.now message.now) }
+        ensures told { IfOk result (λ told. told ≡ is_told rules.now (complete_in complete.new) event.now) }
+        ensures watched { OnOk result (self.new ≡ with_watched rules.now self.old message.now event.now) }
+    {
+        let ruled = RuledEvent::new(rules.records.receives, file, event);
+        self.watch.event(&ruled, message, complete)?;
+        take_skews(&mut self.skews, complete)?;
+        let found = found_in(rules.records.form.full(), complete);
+        let over_limit = is_over(rules.limit, claimed_ahead(event));
+        self.counts = self.counts.with_event(event.kind, found.broken, over_limit);
+        Ok(found.tells(over_limit))
+    }
+
+    // Watches an event on this line, whose message has this name, and tells of it.
+    fn tell<W: Write>(
+        &mut self,
+        rules: &WatchRules,
+        event: &LogEvent,
+        line: FileLine,
+        message: &[u8],
+        writer: &mut W,
+    ) -> Result<(), OutputFault>
+        requires small { IsSmallCarried event.now.carried }
+        requires here { line ≡ line_here self.old.files }
+        ensures watched { OnOk result (self.new ≡ with_watched rules.now self.old message.now event.now) }
+        ensures told { OnOk result (Appends (W.contents writer.old) (W.contents writer.new)
+            (text_of (event_rows rules.now self.old.names (complete_next rules.now self.old event.now message.now) line event.now))) }
+    {
+        let mut complete = Complete {
+            event: None,
+            waited: Vec::new(self.alloc),
+        };
+        let told = self.watch_event(rules, line.file, event, message, &mut complete)?;
+        write_event(
+            self.alloc,
+            &self.names,
+            rules,
+            &complete,
+            line,
+            event,
+            told,
+            writer,
+        )
+    }
+
     // Adds an event of a node and a message with these names, the number of the node being known, and tells of it. Gives it by numbers.
     fn add<W: Write>(
         &mut self,
@@ -222,41 +329,8 @@ impl LogWatch {
         ensures whole { OnOk result (IsWhole self.new) }
     {
         let line = self.files.line_here();
-        add_node(&mut self.names.nodes, &mut self.tallies, node, number)?;
-        let event = LogEvent {
-            node: NodeId(number as u16),
-            reading: head.reading,
-            has_reading: head.has_reading,
-            kind: kind_of(head.word),
-            stamp: head.stamp,
-            has_stamp: head.has_stamp,
-            carried: extras.carried,
-            seq: extras.seq,
-            line: line.number,
-        };
-        self.events += 1;
-        self.tallies[number].take(line, &event);
-        let ruled = RuledEvent::new(rules.records.receives, line.file, &event);
-        let mut complete = Complete {
-            event: None,
-            waited: Vec::new(self.alloc),
-        };
-        self.watch.event(&ruled, message, &mut complete)?;
-        take_skews(&mut self.skews, &complete)?;
-        let found = found_in(rules.records.form.full(), &complete);
-        let over_limit = is_over(rules.limit, claimed_ahead(&event));
-        self.counts = self.counts.with_event(event.kind, found.broken, over_limit);
-        let told = found.tells(over_limit);
-        write_event(
-            self.alloc,
-            &self.names,
-            rules,
-            &complete,
-            line,
-            &event,
-            told,
-            writer,
-        )?;
+        let event = self.count_event(head, extras, line, node, number)?;
+        self.tell(rules, &event, line, message, writer)?;
         Ok(event)
     }
 

@@ -180,6 +180,34 @@ fn watch_records<R: Read + Drop, W: Write>(
     Err(RecordsFault::TooLong)
 }
 
+// Watches the records that a reader gives, of a log of which nothing was read yet. It borrows the reader, so that each of the two functions that own
+// what a watch takes has one way out with all of it.
+fn watch_input<R: Read + Drop, W: Write>(
+    alloc: Global,
+    input: &mut RecordReader<R>,
+    rules: &WatchRules,
+    key: NameKey,
+    writer: &mut W,
+) -> Result<WatchOutcome, RecordsFault>
+    ensures { IfOk result (λ outcome. (bytes : Option (List ℕ)) → HasReadTo R.remaining input.old bytes [] []
+        → IsWatched rules.now bytes (W.contents writer.old) (W.contents writer.new) outcome) }
+{
+    let mut headers = first_headers(alloc)?;
+    let mut log = LogWatch::new(alloc, *rules, key)?;
+    let mut fields = ByteRecord::new(alloc);
+    let mut placed = ByteRecord::new(alloc);
+    watch_records(
+        alloc,
+        input,
+        &mut headers,
+        &mut fields,
+        &mut placed,
+        &mut log,
+        rules,
+        writer,
+    )
+}
+
 /// Watches a log: answers each of its records as it comes, and sums the log up in the end.
 ///
 /// What there is to say of a record is written, and the writer is flushed, as soon as the reader has given the last byte of the record; where there is
@@ -195,18 +223,5 @@ pub fn watch_log<R: Read + Drop, W: Write>(
     ensures { IfOk result (IsWatched rules (R.remaining reader) (W.contents writer.old) (W.contents writer.new)) }
 {
     let mut input = record_reader(alloc, reader)?;
-    let mut log = LogWatch::new(alloc, rules, key)?;
-    let mut headers = first_headers(alloc)?;
-    let mut fields = ByteRecord::new(alloc);
-    let mut placed = ByteRecord::new(alloc);
-    watch_records(
-        alloc,
-        &mut input,
-        &mut headers,
-        &mut fields,
-        &mut placed,
-        &mut log,
-        &rules,
-        writer,
-    )
+    watch_input(alloc, &mut input, &rules, key, writer)
 }
