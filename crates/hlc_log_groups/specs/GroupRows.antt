@@ -15,7 +15,8 @@ use Rattle.hlc_log_text.specs.declared.log_rules.LogRules.{LogRules}
 use Rattle.hlc_log_text.specs.declared.question.LogQuestion.{LogQuestion}
 use Rattle.hlc_open_log.specs.Opened.{IsOpened, OpenedLog}
 use Rattle.hlc_log_audit.specs.Answers.{told_in}
-use Rattle.hlc_log_audit.specs.Audit.{IsAudited}
+use Rattle.hlc_log_audit.specs.Audit.{IsAudited, TellsEvents}
+use Rattle.hlc_log_audit.specs.declared.audited.Audited.{Audited}
 use Rattle.hlc_log_audit.specs.declared.outcome.Outcome.{Outcome}
 use Rattle.hlc_log_audit.specs.declared.outcome.Outcome.TheVariants as outcome
 use Rattle.hlc_log_audit.specs.declared.rules.AuditRules.{AuditRules}
@@ -85,3 +86,8 @@ pub record IsGroupedAudit (rules : AuditRules) (told : GroupDetail) (asked : Lis
   pub are_groups : ¬ (result ≡ outcome.BadLog) → TellGroupsOf rules.records told bytes groups
   pub none : result ≡ outcome.BadLog → groups ≡ []
   pub written : Appends between after (text_of groups)
+
+-- how such an audit ends: it left this, with its outcome, and tells how many events the bytes have, if they are a log
+abbrev pub EndsGroupedAudit : AuditRules → GroupDetail → List LogQuestion → (bytes before after : Option (List ℕ)) → Audited → Type 0
+EndsGroupedAudit rules told asked bytes before after audited =
+    IsGroupedAudit rules told asked bytes before after audited.outcome × TellsEvents rules.records MAX_CAPACITY bytes audited

@@ -1,20 +1,20 @@
 // The audit of a log with the groups of its causes.
 
-ghost use Rattle.std.specs.Prelude.{◌≡◌, ℕ, IfOk, IsErrOf, List, Option, length};
+ghost use Rattle.std.specs.Prelude.{◌≡◌, ℕ, IfErr, IfOk, List, Option, length};
 ghost use Rattle.std.specs.Io.KnownBytes.{Appends};
 ghost use Rattle.hlc_stamp.specs.declared.limits.TheConstants.{MAX_CAPACITY};
 ghost use Rattle.hlc_csv.specs.Rows.{Fields, text_of};
-ghost use Rattle.hlc_log_text.specs.ReadLog.{HasTooMany};
 ghost use Rattle.hlc_log_text.specs.StampForms.{greatest_c};
-ghost use Rattle.hlc_log_audit.specs.Audit.{AreRowsTold, IsOutcome, TellsEvents, all_asked};
-ghost use Rattle.hlc_log_groups.specs.GroupRows.{AreGroupRowsIf, IsGroupedAudit};
+ghost use Rattle.hlc_open_log.specs.Unopened.{IsOpening};
+ghost use Rattle.hlc_log_audit.specs.Audit.{AreRowsTold, IsOutcome, StopsAudit, all_asked};
+ghost use Rattle.hlc_log_groups.specs.GroupRows.{AreGroupRowsIf, EndsGroupedAudit};
 
 use crate::group_detail::GroupDetail;
 use crate::group_rows::write_groups;
 use hlc_csv::{OutputFault, RecordsFault};
-use hlc_log_audit::{AuditRules, Audited, Outcome, audit_opened};
+use hlc_log_audit::{AuditRules, Audited, audit_opened, audit_unopened};
 use hlc_log_text::{LogQuestion, NameKey};
-use hlc_open_log::{OpenFault, OpenLog, open_log, tell_bad};
+use hlc_open_log::{OpenFault, OpenLog, open_log};
 use hlc_stamp::MAX_CAPACITY;
 use std::alloc::Global;
 use std::io::{Read, Write};
@@ -41,6 +41,28 @@ fn audit_opened_grouped<W: Write>(
     Ok(audited)
 }
 
+// Tells what there is to tell of an input, which was opened as a log by these rules, or wasn't. Whoever owns the log has one way out.
+fn audit_opening_grouped<W: Write>(
+    alloc: Global,
+    opening: &Result<OpenLog, OpenFault>,
+    rules: AuditRules,
+    told: GroupDetail,
+    asked: &[LogQuestion],
+    key: NameKey,
+    writer: &mut W,
+) -> Result<Audited, RecordsFault>
+    requires { IfOk opening.now (λ log. log.full ≡ greatest_c rules.records.form) }
+    ensures audited { (bytes : Option (List ℕ)) → IsOpening rules.records MAX_CAPACITY bytes opening.now
+        → IfOk result (EndsGroupedAudit rules told asked.now bytes (W.contents writer.old) (W.contents writer.new)) }
+    ensures stopped { (bytes : Option (List ℕ)) → IsOpening rules.records MAX_CAPACITY bytes opening.now
+        → IfErr result (StopsAudit rules.records MAX_CAPACITY bytes writer.old writer.new) }
+{
+    match opening {
+        Ok(log) => Ok(audit_opened_grouped(alloc, log, rules, told, asked, key, writer)?),
+        Err(fault) => audit_unopened(alloc, fault, writer),
+    }
+}
+
 /// Audits a log as `hlc_log_audit::audit_run` does, and then writes the rows that tell so much of the groups of its causes.
 ///
 /// The groups are those of the whole log, whether its report is written or not. Of input that is no log none are told.
@@ -53,24 +75,9 @@ pub fn audit_with_groups<R: Read + Drop, W: Write>(
     asked: &[LogQuestion],
     key: NameKey,
 ) -> Result<Audited, RecordsFault>
-    ensures audited { IfOk result (λ audited. IsGroupedAudit rules told asked.now
-        (R.remaining reader) (W.contents writer.old) (W.contents writer.new) audited.outcome) }
-    ensures counted { IfOk result (TellsEvents rules.records MAX_CAPACITY (R.remaining reader)) }
-    ensures read { IsErrOf result RecordsFault.Read → writer.new ≡ writer.old }
-    ensures too_long { IsErrOf result RecordsFault.TooLong → HasTooMany rules.records MAX_CAPACITY (R.remaining reader) }
-    ensures nothing { IsErrOf result RecordsFault.TooLong → writer.new ≡ writer.old }
+    ensures audited { IfOk result (EndsGroupedAudit rules told asked.now (R.remaining reader) (W.contents writer.old) (W.contents writer.new)) }
+    ensures stopped { IfErr result (StopsAudit rules.records MAX_CAPACITY (R.remaining reader) writer.old writer.new) }
 {
-    match open_log(alloc, reader, rules.records, MAX_CAPACITY, key) {
-        Ok(log) => Ok(audit_opened_grouped(alloc, &log, rules, told, asked, key, writer)?),
-        Err(OpenFault::Bad(bad)) => {
-            tell_bad(alloc, &bad, writer)?;
-            Ok(Audited {
-                outcome: Outcome::BadLog,
-                events: 0,
-            })
-        }
-        Err(OpenFault::Read) => Err(RecordsFault::Read),
-        Err(OpenFault::TooLong) => Err(RecordsFault::TooLong),
-        Err(OpenFault::Memory) => Err(RecordsFault::Memory),
-    }
+    let opening = open_log(alloc, reader, rules.records, MAX_CAPACITY, key);
+    audit_opening_grouped(alloc, &opening, rules, told, asked, key, writer)
 }
