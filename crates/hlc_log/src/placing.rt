@@ -3,7 +3,7 @@
 ghost use Rattle.std.specs.Prelude.{◌≡◌, ℕ, ◌<◌, ◌≤◌, ◌↔◌, ◌⊎◌, All, IfOk, IsTrue, MatchBool, OnOk, Some, false, length, vec_capacity};
 ghost use Rattle.hlc_log.specs.Events.{IsNumbered};
 ghost use Rattle.hlc_log.specs.Messages.{Receives, SendsTo};
-ghost use Rattle.hlc_log.specs.Placing.{AreAllBlocked, AreNodesBelow, AreTurns, AreTurnsBeside, IsBlocked, IsNodeBlocked, IsPassed, IsPlacing, IsReady, IsWoken, LinksToFirstFront, first_of, node_at};
+ghost use Rattle.hlc_log.specs.Placing.{AreAllBlocked, AreNodesBelow, AreNodesLinked, AreTurns, AreTurnsBeside, IsBlocked, IsNodeBlocked, IsPassed, IsPlacing, IsReady, IsWoken, LinksToFirstFront, first_of, node_at};
 ghost use Rattle.hlc_log.specs.ReceiveLinks.{AreReceivesLinked};
 ghost use Rattle.hlc_log.specs.SendLinks.{AreSendLinks, link_at};
 ghost use Rattle.hlc_log.specs.Standing.{SeqsRise};
@@ -39,22 +39,31 @@ impl Placing {
         ensures turns { IfOk result (λ placing. AreTurns log.now.events placing.fronts.items placing.turns) }
         ensures room { IfOk result (λ placing. length log.now.events ≤ vec_capacity placing.order) }
     {
-        let len = log.len();
         let nodes = nodes_of(log);
-        let mut next = vec![in alloc; Link::none(); len as usize]?;
-        let mut fronts = vec![in alloc; None; nodes as usize]?;
-        for place in (0..len).rev() {
+        let mut placing = Placing {
+            next: vec![in alloc; Link::none(); log.len() as usize]?,
+            fronts: vec![in alloc; None; nodes as usize]?,
+            turns: Turns::new(alloc, nodes)?,
+            order: Vec::with_capacity(alloc, log.len() as usize)?,
+        };
+        placing.link_all(log);
+        Ok(placing)
+    }
+
+    // Links each event to the next of its node, and each node to its first, where none is linked yet.
+    fn link_all(&mut self, log: &Log)
+        requires { AreNodesLinked log.now.events (length log.now.events) self.old.next.items self.old.fronts.items }
+        ensures linked { AreNodesLinked log.now.events 0 self.new.next.items self.new.fronts.items }
+        ensures nodes { length self.new.fronts.items ≡ length self.old.fronts.items }
+        ensures turns { self.new.turns ≡ self.old.turns }
+        ensures order { self.new.order ≡ self.old.order }
+    {
+        for place in (0..log.len()).rev() {
             let event = EventId(place);
             let node = log.node_at(event).0 as usize;
-            next[place as usize] = Link::to_any(fronts[node]);
-            fronts[node] = Some(event);
+            self.next[place as usize] = Link::to_any(self.fronts[node]);
+            self.fronts[node] = Some(event);
         }
-        Ok(Placing {
-            next,
-            fronts,
-            turns: Turns::new(alloc, nodes)?,
-            order: Vec::with_capacity(alloc, len as usize)?,
-        })
     }
 
     // Places events until no node can go on.

@@ -26,17 +26,27 @@ impl ReceiveLinks {
         ensures messages { IfOk result (λ links. length links.firsts.items ≡ messages) }
         ensures linked { IfOk result (λ links. AreReceivesLinked log.now.events 0 links.firsts.items links.next.items) }
     {
-        let len = log.len();
-        let mut firsts = vec![in alloc; Link::none(); messages as usize]?;
-        let mut next = vec![in alloc; Link::none(); len as usize]?;
-        for place in (0..len).rev() {
+        let firsts = vec![in alloc; Link::none(); messages as usize]?;
+        let next = vec![in alloc; Link::none(); log.len() as usize]?;
+        let mut links = ReceiveLinks { firsts, next };
+        links.link_all(log);
+        Ok(links)
+    }
+
+    // Links the receives of a log, of which none is linked yet.
+    fn link_all(&mut self, log: &Log)
+        requires numbered { All (IsNumbered (length self.old.firsts.items)) log.now.events }
+        requires none { AreReceivesLinked log.now.events (length log.now.events) self.old.firsts.items self.old.next.items }
+        ensures messages { length self.new.firsts.items ≡ length self.old.firsts.items }
+        ensures linked { AreReceivesLinked log.now.events 0 self.new.firsts.items self.new.next.items }
+    {
+        for place in (0..log.len()).rev() {
             let event = EventId(place);
             if let LogKind::Receive(message) = log.kind_at(event) {
                 let message = message.0 as usize;
-                next[place as usize] = firsts[message];
-                firsts[message] = Link::to(event);
+                self.next[place as usize] = self.firsts[message];
+                self.firsts[message] = Link::to(event);
             }
         }
-        Ok(ReceiveLinks { firsts, next })
     }
 }
