@@ -1,2 +1,4 @@
 mod DrawnLogs
 mod FollowingFacts
+mod LengthsTold
+mod StoppedAudits

@@ -3,8 +3,8 @@
 ghost use Rattle.std.specs.Prelude.{◌≡◌, [], IfErr, IfOk, IsErrOf, None, OnOk, Some, true};
 ghost use Rattle.hlc_stamp.specs.declared.limits.TheConstants.{MAX_CAPACITY};
 ghost use Rattle.hlc_log_text.specs.ReadLog.{HasTooMany};
-ghost use Rattle.hlc_log_audit.specs.Audit.{TellsEvents};
-ghost use Rattle.hlc_log_groups.specs.GroupRows.{IsGroupedAudit};
+ghost use Rattle.hlc_log_audit.specs.Audit.{StopsAudit, TellsEvents};
+ghost use Rattle.hlc_log_groups.specs.GroupRows.{EndsGroupedAudit};
 ghost use Rattle.hlc_command_line.specs.CommandFault.{IsOfAnswer, IsOfInput};
 ghost use Rattle.hlc_log_commands.specs.Audited.{IsAuditPassed, IsAuditedBut, IsAuditedBy, IsLogNote, audit_stop, log_note, rules_of, told_of};
 ghost use Rattle.hlc_log_commands.specs.Following.{IsOfQuestions};
@@ -33,12 +33,9 @@ fn audit_records<I: Read + Drop, O: Write>(
     json: Option<JsonRules>,
     key: NameKey,
 ) -> Result<Audited, RecordsFault>
-    ensures audited { IfOk result (λ audited. IsGroupedAudit rules told asked.now
-        (records_in json (I.remaining reader)) (O.contents writer.old) (O.contents writer.new) audited.outcome) }
-    ensures counted { IfOk result (TellsEvents rules.records MAX_CAPACITY (records_in json (I.remaining reader))) }
-    ensures read { IsErrOf result RecordsFault.Read → writer.new ≡ writer.old }
-    ensures too_long { IsErrOf result RecordsFault.TooLong → HasTooMany rules.records MAX_CAPACITY (records_in json (I.remaining reader)) }
-    ensures nothing { IsErrOf result RecordsFault.TooLong → writer.new ≡ writer.old }
+    ensures audited { IfOk result (EndsGroupedAudit rules told asked.now
+        (records_in json (I.remaining reader)) (O.contents writer.old) (O.contents writer.new)) }
+    ensures stopped { IfErr result (StopsAudit rules.records MAX_CAPACITY (records_in json (I.remaining reader)) writer.old writer.new) }
 {
     match LogInput::new(alloc, reader, json) {
         Ok(input) => audit_with_groups(alloc, input, writer, rules, told, asked, key),
@@ -56,9 +53,8 @@ fn audit_to_rows<I: Read + Drop>(
     json: Option<JsonRules>,
     key: NameKey,
 ) -> Result<(Audited, Vec<u8>), RecordsFault>
-    ensures audited { IfOk result (λ left. IsGroupedAudit rules told asked.now
-        (records_in json (I.remaining reader)) (Some []) (Some left.1.items) left.0.outcome) }
-    ensures counted { IfOk result (λ left. TellsEvents rules.records MAX_CAPACITY (records_in json (I.remaining reader)) left.0) }
+    ensures audited { IfOk result (λ left. EndsGroupedAudit rules told asked.now
+        (records_in json (I.remaining reader)) (Some []) (Some left.1.items) left.0) }
     ensures too_long { IsErrOf result RecordsFault.TooLong → HasTooMany rules.records MAX_CAPACITY (records_in json (I.remaining reader)) }
 {
     let mut rows = Vec::new(alloc);

@@ -149,27 +149,6 @@ fn draw_lent<I: Read + Drop, O: Write>(
     draw_lent_log(alloc, &mut log, part, writer)
 }
 
-/// Draws a part of a log of at most so many records, as `draw_log` does.
-pub fn draw_log_up_to<I: Read + Drop, O: Write>(
-    alloc: Global,
-    reader: I,
-    writer: &mut O,
-    options: DrawLogOptions,
-    json: Option<JsonRules>,
-    most: u32,
-    key: NameKey,
-) -> Result<(), CommandFault>
-    requires { most ≤ MAX_CAPACITY }
-    ensures done { OnOk result (IsLogDrawnUpTo most options
-        (records_in json (I.remaining reader)) (O.contents writer.old) (O.contents writer.new)) }
-    ensures told { IfErr result (λ fault. IsOfAnswer fault → IsLogDrawnUpToBut most fault options
-        (records_in json (I.remaining reader)) (O.contents writer.old) (O.contents writer.new)) }
-    ensures unread { IfErr result (λ fault. IsOfInput fault → writer.new ≡ writer.old) }
-    ensures too_long { IfErr result (IsLengthTold most options.records (records_in json (I.remaining reader))) }
-{
-    draw_lent(alloc, reader, writer, &options, json, most, key)
-}
-
 /// Draws a part of a log of another system, which is lines of JSON if there are rules for these. Where receives tick its rows are in the order
 /// of the least stamps, else in a causal one. If the input is not a log, the row that an audit writes about it is written. If the event to
 /// explain, the first one, or the one about which rows are drawn isn't there, nothing is written.
@@ -187,5 +166,5 @@ pub fn draw_log<I: Read + Drop, O: Write>(
     ensures unread { IfErr result (λ fault. IsOfInput fault → writer.new ≡ writer.old) }
     ensures too_long { IfErr result (IsLengthTold MAX_CAPACITY options.records (records_in json (I.remaining reader))) }
 {
-    draw_log_up_to(alloc, reader, writer, options, json, MAX_CAPACITY, key)
+    draw_lent(alloc, reader, writer, &options, json, MAX_CAPACITY, key)
 }

@@ -6,8 +6,7 @@
 //! - `audit_input` audits the log in an input, as `hlc audit` does, and answers what is asked beside it. Questions may follow the log in the input,
 //!   below a line that says so: `input_in_parts` states how it is cut there. `audit_log` audits an input that is all log; `audit_by` writes the same,
 //!   and leaves it to the caller what the outcome means.
-//! - `draw_log` draws a part of it, as `hlc draw-log` does, and `draw_log_up_to` one of a log of at most so many records. Where a part is named by
-//!   lines in files, the log that was read says which lines these are.
+//! - `draw_log` draws a part of it, as `hlc draw-log` does. Where a part is named by lines in files, the log that was read says which lines these are.
 //! - `vectors_of_log` writes it with the vectors of its events, as `hlc vectors` does.
 //!
 //! - `watch_log` tells what broke the clock rule while a log comes, as `hlc watch` does, and writes as the input comes (`hlc_watched_log`).
@@ -27,7 +26,7 @@ mod watch_command;
 
 pub use audited_input::audit_input;
 pub use audited_log::{audit_by, audit_log};
-pub use drawn_log::{draw_log, draw_log_up_to};
+pub use drawn_log::draw_log;
 pub use following::input_in_parts;
 pub use hlc_command_line::CommandFault;
 pub use hlc_log_text::NameKey;

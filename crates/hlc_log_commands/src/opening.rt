@@ -1,7 +1,8 @@
 // A log that is opened, or told of.
 
-ghost use Rattle.std.specs.Prelude.{◌≡◌, ◌≤◌, IfErr, IfOk, OnOk};
+ghost use Rattle.std.specs.Prelude.{◌≡◌, ◌≤◌, ℕ, IfErr, IfOk, List, OnOk, Option};
 ghost use Rattle.hlc_stamp.specs.declared.limits.TheConstants.{MAX_CAPACITY};
+ghost use Rattle.hlc_log_text.specs.declared.log_rules.LogRules.{LogRules};
 ghost use Rattle.hlc_open_log.specs.Opened.{IsOpened};
 ghost use Rattle.hlc_open_log.specs.Unopened.{ExplainsOpenFault};
 ghost use Rattle.hlc_command_line.specs.CommandFault.{IsOfAnswer, IsOfInput};
@@ -31,7 +32,30 @@ fn open_records<I: Read + Drop>(
 {
     match LogInput::new(alloc, reader, json) {
         Ok(input) => open_log(alloc, input, rules, most, key),
-        Err(_) => Err(OpenFault::Memory),
+        Err(_) => Err(OpenFault::Records(RecordsFault::Memory)),
+    }
+}
+
+// The fault of a command whose log of at most so many records couldn't be opened. If the input is no log, the row that an audit writes about it is
+// written.
+fn tell_unopened<O: Write>(
+    alloc: Global,
+    fault: &OpenFault,
+    writer: &mut O,
+    most: u32,
+) -> CommandFault
+    ensures told { (rules : LogRules) (input : Option (List ℕ)) → ExplainsOpenFault rules most input fault.now → IsOfAnswer result
+        → IsUnopened most result rules input (O.contents writer.old) (O.contents writer.new) }
+    ensures unread { IsOfInput result → writer.new ≡ writer.old }
+    ensures too_long { (rules : LogRules) (input : Option (List ℕ)) → ExplainsOpenFault rules most input fault.now → IsLengthTold most rules input result }
+{
+    match fault {
+        OpenFault::Bad(bad) => match tell_bad(alloc, bad, writer) {
+            Ok(()) => CommandFault::BadLog,
+            Err(fault) => CommandFault::from(fault),
+        },
+        OpenFault::Records(RecordsFault::TooLong) => CommandFault::LogTooLong { most },
+        OpenFault::Records(fault) => CommandFault::Records(*fault),
     }
 }
 
@@ -55,12 +79,6 @@ pub(crate) fn open_or_tell<I: Read + Drop, O: Write>(
 {
     match open_records(alloc, reader, rules, json, most, key) {
         Ok(log) => Ok(log),
-        Err(OpenFault::Bad(bad)) => {
-            tell_bad(alloc, &bad, writer)?;
-            Err(CommandFault::BadLog)
-        }
-        Err(OpenFault::Read) => Err(CommandFault::Records(RecordsFault::Read)),
-        Err(OpenFault::TooLong) => Err(CommandFault::LogTooLong { most }),
-        Err(OpenFault::Memory) => Err(CommandFault::Records(RecordsFault::Memory)),
+        Err(fault) => Err(tell_unopened(alloc, &fault, writer, most)),
     }
 }
