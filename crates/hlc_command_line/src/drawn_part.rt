@@ -5,7 +5,7 @@ ghost use Rattle.hlc_command_line.specs.DrawnPart.{event_of_rows};
 pub const USUAL_ROWS: u32 = 40;
 
 /// Which rows of a history or a log are drawn, whose events are named by an `E`.
-#[derive(Clone, Copy, Debug, Drop)]
+#[derive(Clone, Copy, Drop)]
 pub enum DrawnRows<E> {
     /// Those from one event to another.
     Between {
@@ -36,7 +36,7 @@ impl<E: Copy> DrawnRows<E> {
 }
 
 /// What of a history or a log is drawn, whose events are named by an `E`.
-#[derive(Clone, Copy, Debug, Drop)]
+#[derive(Clone, Copy, Drop)]
 pub enum DrawnPart<E> {
     /// Some of its rows.
     Rows {

@@ -65,18 +65,23 @@ fn watch_order(alloc: Global, options: &ArgMatches<'_>) -> Result<Order, LineFau
     })
 }
 
-// The order of `draw-log`.
+// The order of `draw-log`. Where it ends in a fault, a function drops what is drawn: `?` would drop it here, in as many ways as it has forms.
 fn draw_log_order(alloc: Global, options: &ArgMatches<'_>) -> Result<Order, LineFault>
     requires { HaveOptions (rows_of (found_of options.now)) draw_log_options }
     ensures found { IfOk result (IsOrderOf (codes "draw-log") (rows_of (found_of options.now))) }
     ensures mistaken { IfErr result (UnlessMemory (IsMistakeOf (codes "draw-log") (rows_of (found_of options.now)))) }
 {
     let drawn = draw_log_options(alloc, options)?;
-    let json = json_rules(alloc, options)?;
-    Ok(Order::DrawLog {
-        options: drawn,
-        json,
-    })
+    match json_rules(alloc, options) {
+        Ok(json) => Ok(Order::DrawLog {
+            options: drawn,
+            json,
+        }),
+        Err(fault) => {
+            drop(drawn);
+            Err(fault)
+        }
+    }
 }
 
 // The order of `vectors`.
@@ -197,6 +202,8 @@ pub fn order(alloc: Global, arguments: &[&str]) -> Result<Order, LineFault>
 {
     let order = matched(alloc, arguments)?;
     if is_turned(&order) {
+        // By a function: without it, there is a way out of here for each variant that owns something.
+        drop(order);
         return Err(LineFault::Range);
     }
     Ok(order)

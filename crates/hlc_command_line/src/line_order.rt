@@ -17,7 +17,7 @@ pub enum OutputForm {
 }
 
 /// How a log is read and audited.
-#[derive(Clone, Copy, Debug)]
+#[derive(Clone, Copy)]
 pub struct AuditOptions {
     /// How its records are read.
     pub records: LogRules,
@@ -34,7 +34,7 @@ pub struct AuditOptions {
 }
 
 /// What is asked beside a log that is audited.
-#[derive(Debug, Drop)]
+#[derive(Drop)]
 pub struct AskedBeside {
     /// The questions that the command line asks.
     pub questions: Vec<LogQuestion>,
@@ -46,7 +46,7 @@ pub struct AskedBeside {
 pub const USUAL_KEPT: u32 = 1_000_000;
 
 /// How a log is read and watched.
-#[derive(Clone, Copy, Debug)]
+#[derive(Clone, Copy)]
 pub struct WatchOptions {
     /// How its records are read.
     pub records: LogRules,
@@ -62,7 +62,7 @@ pub struct WatchOptions {
 }
 
 /// How a line of a log is named.
-#[derive(Debug, Drop)]
+#[derive(Drop)]
 pub enum LogLine {
     /// By where it stands in the files that the log was put together of.
     Located(Location),
@@ -71,7 +71,7 @@ pub enum LogLine {
 }
 
 /// How a log is read, and what of it is drawn.
-#[derive(Debug, Drop)]
+#[derive(Drop)]
 pub struct DrawLogOptions {
     /// How its records are read.
     pub records: LogRules,
@@ -80,7 +80,7 @@ pub struct DrawLogOptions {
 }
 
 /// What a command line asks of the program.
-#[derive(Debug, Drop)]
+#[derive(Drop)]
 pub enum Order {
     /// Answer a script of records, with these settings.
     Run(Settings),

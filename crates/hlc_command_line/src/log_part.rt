@@ -31,16 +31,25 @@ fn text_options<'a>(options: &'a ArgMatches<'_>) -> PartOptions<&'a str>
     }
 }
 
-// The rows, by the lines that the texts tell.
+// The rows, by the lines that the texts tell. Where one tells none, a function drops the other: `?` would drop it here, in as many ways as it has forms.
 fn log_rows(alloc: Global, texts: DrawnRows<&str>) -> Result<DrawnRows<LogLine>, LineFault>
     ensures found { IfOk result (TellRows texts.entry) }
     ensures mistaken { IfErr result (IsUntold (TellsNoRows texts.entry)) }
 {
     match texts {
-        DrawnRows::Between { from, to } => Ok(DrawnRows::Between {
-            from: optional_line(alloc, "from", from)?,
-            to: optional_line(alloc, "to", to)?,
-        }),
+        DrawnRows::Between { from, to } => {
+            let first = optional_line(alloc, "from", from)?;
+            match optional_line(alloc, "to", to) {
+                Ok(last) => Ok(DrawnRows::Between {
+                    from: first,
+                    to: last,
+                }),
+                Err(fault) => {
+                    drop(first);
+                    Err(fault)
+                }
+            }
+        }
         DrawnRows::Around { event, rows } => Ok(DrawnRows::Around {
             event: log_line(alloc, "around", event)?,
             rows,
@@ -54,10 +63,16 @@ fn lines_of_part(alloc: Global, texts: DrawnPart<&str>) -> Result<DrawnPart<LogL
     ensures mistaken { IfErr result (IsUntold (TellsNoPart texts.entry)) }
 {
     match texts {
-        DrawnPart::Rows { rows, explained } => Ok(DrawnPart::Rows {
-            rows: log_rows(alloc, rows)?,
-            explained: optional_line(alloc, "explain", explained)?,
-        }),
+        DrawnPart::Rows { rows, explained } => {
+            let rows = log_rows(alloc, rows)?;
+            match optional_line(alloc, "explain", explained) {
+                Ok(explained) => Ok(DrawnPart::Rows { rows, explained }),
+                Err(fault) => {
+                    drop(rows);
+                    Err(fault)
+                }
+            }
+        }
         DrawnPart::Chain { event } => Ok(DrawnPart::Chain {
             event: log_line(alloc, "explain", event)?,
         }),
