@@ -29,8 +29,6 @@ mod outcome;
 mod shown_skew;
 mod skews;
 mod summary;
-#[cfg(test)]
-mod tests;
 mod watch_counts;
 mod watch_rules;
 mod watched_log;
