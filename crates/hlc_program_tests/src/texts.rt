@@ -170,8 +170,9 @@ fn tells_of_faults_of_no_run(rt: HostRuntime) {
 // A program that is run has a name at least.
 #[test]
 fn no_arguments_name_no_subcommand(rt: HostRuntime) {
-    let kind = match order(rt.alloc(), &[]) {
-        Err(LineFault::Line(e)) => Some(e.kind()),
+    let fault = order(rt.alloc(), &[]).err();
+    let kind = match &fault {
+        Some(LineFault::Line(e)) => Some(e.kind()),
         _ => None,
     };
     assert_eq!(rt; kind, Some(ErrorKind::MissingSubcommand));
