@@ -153,7 +153,11 @@ fn dispatch<R: AllocGlobal + Threads + Wait + RandomSource + Sync, I: Read + Dro
 {
     match name_key(rt, &order) {
         Ok(key) => carry_out(rt, order, reader, writer, key),
-        Err(fault) => Err(fault),
+        Err(fault) => {
+            // By a function: else there is a way out of here for each order that owns something.
+            drop(order);
+            Err(fault)
+        }
     }
 }
 
@@ -185,7 +189,9 @@ pub fn try_perform<R: AllocGlobal + Threads + Wait + RandomSource + Sync, I: Rea
         Ok(order) => Ok(dispatch(rt, order, reader, writer)?),
         Err(fault) => {
             if asks_for_text(&fault) {
-                unnoted(show(writer, &fault))
+                let shown = show(writer, &fault);
+                drop(fault);
+                unnoted(shown)
             } else {
                 Err(Fault::Line(fault))
             }

@@ -11,7 +11,8 @@ use Rattle.hlc_causes.specs.declared.answers.Causes.{Causes}
 use Rattle.hlc_causes.specs.Causes.{no_causes}
 use Rattle.hlc_csv.specs.Rows.{AddsText, Fields, text_of}
 use Rattle.hlc_ordered_log.specs.InOrder.{LogInOrder}
-use Rattle.hlc_log_audit.specs.Report.{AreCausesBefore, NamesCausesAt, cause_rows_at, wrong_at, wrong_row}
+use Rattle.hlc_ordered_log.specs.Found.{AreCausesBefore, NamesCausesAt, wrong_at}
+use Rattle.hlc_log_audit.specs.Report.{cause_rows_at, wrong_row}
 use Rattle.hlc_log_audit.proofs.RowsOfPlaces.{adds_place, flat_map-same}
 
 -- places without rows
@@ -22,54 +23,27 @@ no_rows rows (suc n) none =
     ∙ ap (λ (before : List Fields). before ++ (rows n ++ [])) (no_rows rows n (λ k lt. none k (omega arith)))
     ∙ ap (λ (here : List Fields). here ++ []) (none n (omega arith))
 
-module _ (log : LogInOrder) where
-  pub no_answers : (full : ℕ) → AreCausesBefore log full 0 []
-  no_answers full = record { one_each = refl; each = λ e lt. absurd (omega arith) }
+module _ (log : LogInOrder) (files : List FileMark) (nodes : List (List ℕ)) (full : ℕ) where
+  -- the row at a place, if there is one, by the answers
+  abbrev pub row_at : List Causes → ℕ → List Fields
+  row_at causes e = cause_rows_at files nodes log full e (slice_index_or causes e no_causes)
 
-  -- one answer more
-  pub causes_push : (full n : ℕ) (causes : List Causes) (found : Causes) → AreCausesBefore log full n causes
-      → NamesCausesAt log full n found → AreCausesBefore log full (n + 1) (causes ++ found ∷ [])
-  causes_push full n causes found are names = record {
-    one_each = length_push causes found ∙ ap (λ (k : ℕ). k + 1) are.one_each;
-    each = λ e lt. elim (cases_eq e n) [
-      | inl same ↦
-          subst (NamesCausesAt log full e) (sym (get_or_push causes found no_causes e (are.one_each ∙ sym same)))
-          (subst (λ (k : ℕ). NamesCausesAt log full k found) (sym same) names)
-      | inr ne ↦
-          let size = are.one_each in
-          subst (NamesCausesAt log full e) (sym (get_or_append_left causes (found ∷ []) no_causes e (omega arith)))
-          (are.each e (omega arith))
-    ];
-  }
+  pub no_cause_rows : (n : ℕ) → ((k : ℕ) → k < n → wrong_at log k ≡ None) → flat_map (row_at (replicate n no_causes)) (places_below n) ≡ []
+  no_cause_rows n right =
+      no_rows (row_at (replicate n no_causes)) n (λ k lt.
+      ap (cause_rows_at files nodes log full k) (get_or-replicate n k no_causes no_causes lt) ∙ ap (wrong_row files nodes log k) (right k lt))
 
-  -- the answers if there is no cause
-  pub none_named : (full n : ℕ) → ((e : ℕ) → e < n → NamesCausesAt log full e no_causes) → AreCausesBefore log full n (replicate n no_causes)
-  none_named full n none = record {
-    one_each = length-replicate n no_causes;
-    each = λ e lt. subst (NamesCausesAt log full e) (sym (get_or-replicate n e no_causes no_causes lt)) (none e lt);
-  }
-
-  module _ (files : List FileMark) (nodes : List (List ℕ)) (full : ℕ) where
-    -- the row at a place, if there is one, by the answers
-    abbrev pub row_at : List Causes → ℕ → List Fields
-    row_at causes e = cause_rows_at files nodes log full e (slice_index_or causes e no_causes)
-
-    pub no_cause_rows : (n : ℕ) → ((k : ℕ) → k < n → wrong_at log k ≡ None) → flat_map (row_at (replicate n no_causes)) (places_below n) ≡ []
-    no_cause_rows n right =
-        no_rows (row_at (replicate n no_causes)) n (λ k lt.
-        ap (cause_rows_at files nodes log full k) (get_or-replicate n k no_causes no_causes lt) ∙ ap (wrong_row files nodes log k) (right k lt))
-
-    -- its row is added
-    pub adds_cause : (a b c : Option (List ℕ)) (old mid new : List ℕ) (n : ℕ) (causes : List Causes) (found : Causes)
-        → length causes ≡ n → AddsText a b old mid (text_of (flat_map (row_at causes) (places_below n)))
-        → AddsText b c mid new (text_of (cause_rows_at files nodes log full n found))
-        → AddsText a c old new (text_of (flat_map (row_at (causes ++ found ∷ [])) (places_below (n + 1))))
-    adds_cause a b c old mid new n causes found size h t =
-        let more = causes ++ found ∷ [] in
-        let before : flat_map (row_at causes) (places_below n) ≡ flat_map (row_at more) (places_below n) =
-        flat_map-same (row_at causes) (row_at more) n (λ k lt.
-        ap (cause_rows_at files nodes log full k) (sym (get_or_append_left causes (found ∷ []) no_causes k (omega arith)))) in
-        let here : cause_rows_at files nodes log full n found ≡ row_at more n = ap (cause_rows_at files nodes log full n) (sym (get_or_push causes found no_causes n size)) in
-        adds_place a b c old mid new (row_at more) n
-        (subst (λ (rows : List Fields). AddsText a b old mid (text_of rows)) before h)
-        (subst (λ (rows : List Fields). AddsText b c mid new (text_of rows)) here t)
+  -- its row is added
+  pub adds_cause : (a b c : Option (List ℕ)) (old mid new : List ℕ) (n : ℕ) (causes : List Causes) (found : Causes)
+      → length causes ≡ n → AddsText a b old mid (text_of (flat_map (row_at causes) (places_below n)))
+      → AddsText b c mid new (text_of (cause_rows_at files nodes log full n found))
+      → AddsText a c old new (text_of (flat_map (row_at (causes ++ found ∷ [])) (places_below (n + 1))))
+  adds_cause a b c old mid new n causes found size h t =
+      let more = causes ++ found ∷ [] in
+      let before : flat_map (row_at causes) (places_below n) ≡ flat_map (row_at more) (places_below n) =
+      flat_map-same (row_at causes) (row_at more) n (λ k lt.
+      ap (cause_rows_at files nodes log full k) (sym (get_or_append_left causes (found ∷ []) no_causes k (omega arith)))) in
+      let here : cause_rows_at files nodes log full n found ≡ row_at more n = ap (cause_rows_at files nodes log full n) (sym (get_or_push causes found no_causes n size)) in
+      adds_place a b c old mid new (row_at more) n
+      (subst (λ (rows : List Fields). AddsText a b old mid (text_of rows)) before h)
+      (subst (λ (rows : List Fields). AddsText b c mid new (text_of rows)) here t)

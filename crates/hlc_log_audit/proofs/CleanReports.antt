@@ -13,7 +13,7 @@ use Rattle.hlc_log.proofs.CausalOrders.{place_in_order}
 use Rattle.hlc_log.proofs.OrderSkeletons.{length-skeleton_in, place_of_index, reading_in}
 use Rattle.hlc_log.specs.OrderSkeleton.{index_in}
 use Rattle.hlc_ordered_log.specs.Counts.{AreCounted, no_findings, told_count}
-use Rattle.hlc_ordered_log.specs.Found.{NamesCausesIn}
+use Rattle.hlc_ordered_log.specs.Found.{AreCauses, NamesCausesIn}
 use Rattle.hlc_ordered_log.specs.InOrder.{IsCarriedRightly, IsInOrder, LogInOrder, claimed_of, clocks_of}
 use Rattle.hlc_ordered_log.specs.Messages.{message_counts}
 use Rattle.hlc_ordered_log.specs.declared.counts.Counts.{Counts}
@@ -23,7 +23,7 @@ use Rattle.hlc_ordered_log.proofs.Ordering.{claimed_at, order_len}
 use Rattle.hlc_log_text.specs.StampForms.{greatest_c}
 use Rattle.hlc_log_audit.specs.Audit.{BreaksOrder, ClaimsOver, ExceedsLimit, IsBroken, IsOutOfOrder}
 use Rattle.hlc_log_audit.specs.Laws.{LeastStampsAreSound, LeastStampsReportClean}
-use Rattle.hlc_log_audit.specs.Report.{AreCauses, cause_rows, cause_rows_at, count_row, count_rows, message_row, node_rows, unit_rows, wrong_row}
+use Rattle.hlc_log_audit.specs.Report.{cause_rows, cause_rows_at, count_row, count_rows, message_row, node_rows, unit_rows, wrong_row}
 use Rattle.hlc_log_audit.specs.declared.outcome.Outcome.TheVariants as outcome
 use Rattle.hlc_log_audit.proofs.CauseRows.{no_rows}
 use Rattle.hlc_log_audit.proofs.EventsInOrder.{same_causes}

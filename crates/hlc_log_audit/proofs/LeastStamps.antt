@@ -16,7 +16,7 @@ use Rattle.hlc_causes.specs.Verdicts.{first_not_above, verdict_on}
 use Rattle.hlc_causes.specs.declared.answers.Finding.{Finding}
 use Rattle.hlc_causes.specs.declared.answers.Finding.TheVariants.{RolledOver, Judged}
 use Rattle.hlc_ordered_log.specs.Counts.{AreCounted, is_ahead, is_behind, is_low, is_not_above, is_rolled_over, no_findings}
-use Rattle.hlc_ordered_log.specs.Found.{FindsAt, NamesCausesIn}
+use Rattle.hlc_ordered_log.specs.Found.{FindsAt, NamesCausesAt, NamesCausesIn, wrong_at}
 use Rattle.hlc_ordered_log.specs.InOrder.{IsCarriedRightly, IsInOrder, LogInOrder, claimed_of, clocks_of, seen_of, stamp_told, wrong_of}
 use Rattle.hlc_ordered_log.proofs.CleanLogs.{claims_are_all_least, claims_are_least, none_is_named, seen_here, seen_is_claimed}
 use Rattle.hlc_ordered_log.proofs.Found.{told_has_all, told_or_not, untold_has_none}
@@ -25,7 +25,6 @@ use Rattle.hlc_ordered_log.proofs.EventsInOrder.{length-clocks_of}
 use Rattle.hlc_log.specs.OrderSkeleton.{index_in}
 use Rattle.hlc_log.proofs.OrderSkeletons.{length-skeleton_in, place_of_index}
 use Rattle.hlc_log_audit.specs.Audit.{CarriesWrongly}
-use Rattle.hlc_log_audit.specs.Report.{NamesCausesAt, wrong_at}
 use Rattle.hlc_log_audit.proofs.BrokenStamps.{there_is_counted}
 
 -- a verdict of Least is given only if the claimed stamp is the least one

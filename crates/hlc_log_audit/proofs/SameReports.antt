@@ -29,7 +29,7 @@ use Rattle.hlc_log.specs.Events.{event_at}
 use Rattle.hlc_log.proofs.CausalOrders.{place_in_order}
 use Rattle.hlc_log_text.specs.LogText.{name_of}
 use Rattle.hlc_ordered_log.specs.Counts.{are_all_ahead}
-use Rattle.hlc_ordered_log.specs.Found.{NamesCausesIn, is_swapped_in}
+use Rattle.hlc_ordered_log.specs.Found.{AreCauses, NameEvents, NamesCausesIn, is_swapped_in, swapped_at, wrong_at}
 use Rattle.hlc_ordered_log.specs.InOrder.{LogInOrder, reading_told, skeleton_of, wrong_of}
 use Rattle.hlc_ordered_log.specs.Messages.{message_counts}
 use Rattle.hlc_ordered_log.specs.Moved.{moved_causes, moved_event, moved_skew}
@@ -52,8 +52,9 @@ use Rattle.hlc_log_audit.specs.Answers.{drift_fields, drift_in}
 use Rattle.hlc_log_audit.proofs.SameAnswers.{line_moved, node_moved, same_drift, same_node}
 use Rattle.hlc_log_audit.proofs.RowsOfPlaces.{flat_map-same}
 use Rattle.hlc_log_audit.specs.Laws.{RearrangedReportsAgree, ReportsAgree}
-use Rattle.hlc_log_audit.specs.Report.{AreCauses, AreSkewRows, IsSkewOfEvents, NameEvents, cause_fields, cause_row, cause_rows, cause_rows_at, count_rows, events_at, message_row, factor_row, node_row, node_rows, skew_row, swapped_at, swapped_fields, unit_rows, wrong_at, wrong_row}
-use Rattle.hlc_log_audit.proofs.EventsInOrder.{names_events, same_causes, skew_of_events, wrong_exists}
+use Rattle.hlc_log_audit.specs.Report.{AreSkewRows, IsSkewOfEvents, cause_fields, cause_row, cause_rows, cause_rows_at, count_rows, events_at, message_row, factor_row, node_row, node_rows, skew_row, swapped_fields, unit_rows, wrong_row}
+use Rattle.hlc_ordered_log.proofs.PlacedCauses.{names_events, wrong_exists}
+use Rattle.hlc_log_audit.proofs.EventsInOrder.{same_causes, skew_of_events}
 use Rattle.hlc_log.specs.OrderSkeleton.{index_in}
 use Rattle.hlc_log.proofs.OrderSkeletons.{place_of_index}
 

@@ -9,9 +9,7 @@ use Rattle.hlc_causes.specs.declared.answers.Cause.{Cause}
 use Rattle.hlc_causes.specs.declared.answers.Cause.TheVariants as cause
 use Rattle.hlc_causes.specs.declared.answers.Causes.{Causes}
 use Rattle.hlc_csv.specs.Rows.{Fields, field_of}
-use Rattle.hlc_log.specs.CausalOrder.{place_at}
 use Rattle.hlc_log.specs.Events.{event_at}
-use Rattle.hlc_log.specs.OrderSkeleton.{index_in}
 use Rattle.hlc_log.specs.declared.log_event.LogEvent.{LogEvent}
 use Rattle.hlc_log_text.specs.Files.{line_text}
 use Rattle.hlc_log_text.specs.LogText.{name_of}
@@ -21,8 +19,8 @@ use Rattle.hlc_log_audit.specs.Lines.{position_on}
 use Rattle.hlc_log_audit.specs.OverLimit.{AreOvers}
 use Rattle.hlc_log_audit.specs.declared.over.Over.{Over}
 use Rattle.hlc_ordered_log.specs.Counts.{AreCounted, are_all_ahead}
-use Rattle.hlc_ordered_log.specs.Found.{NamesCausesIn, is_swapped_in}
-use Rattle.hlc_ordered_log.specs.InOrder.{LogInOrder, reading_told, skeleton_of, wrong_of}
+use Rattle.hlc_ordered_log.specs.Found.{AreCauses, swapped_at, wrong_at}
+use Rattle.hlc_ordered_log.specs.InOrder.{LogInOrder, reading_told, skeleton_of}
 use Rattle.hlc_ordered_log.specs.Messages.{message_counts}
 use Rattle.hlc_ordered_log.specs.Skew.{AreSkews, Skews}
 use Rattle.hlc_ordered_log.specs.UnitFactor.{unit_factor}
@@ -52,47 +50,21 @@ cause_fields files log swapped (cause.NotAbovePrevious d) = codes "not-above" �
 cause_fields files log swapped (cause.NotAboveSend d) = codes "not-above" ∷ told_in files log d.0 ∷ []
 cause_fields files log swapped (cause.Ahead p) = codes "ahead" ∷ decimal p.l ∷ decimal p.c ∷ []
 
--- these are the rules that the event at a place of the log, wherever it stands in the order, breaks: none if the log tells no stamp of it
-abbrev pub NamesCausesAt : LogInOrder → (full e : ℕ) → Causes → Type 0
-NamesCausesAt log full e found = (k : ℕ) → k < length log.order → place_at log.order k ≡ e → NamesCausesIn log full k found
-
--- those of each of the first n events of the log
-pub record AreCausesBefore (log : LogInOrder) (full n : ℕ) (causes : List Causes) : Type 0 where
-  pub one_each : length causes ≡ n
-  pub each : (e : ℕ) → e < n → NamesCausesAt log full e (slice_index_or causes e no_causes)
-
--- the same of all events
-abbrev pub AreCauses : LogInOrder → ℕ → List Causes → Type 0
-AreCauses log full causes = AreCausesBefore log full (length log.events) causes
-
 -- the direct predecessor that a cause names, if it names one, is an event
 abbrev pub NamesEvent : LogInOrder → Cause → Type 0
 NamesEvent log (cause.NotAbovePrevious d) = d.0 < length log.events
 NamesEvent log (cause.NotAboveSend d) = d.0 < length log.events
 NamesEvent log _ = Unit {0}
 
--- the direct predecessors that some causes name are events
-pub record NameEvents (log : LogInOrder) (causes : Causes) : Type 0 where
-  pub previous : IfSome causes.not_above_previous (λ d. d.0 < length log.events)
-  pub send : IfSome causes.not_above_send (λ d. d.0 < length log.events)
-
 -- the row of a rule that the event at a place breaks, which stands swapped or doesn't
 abbrev pub cause_fields_at : List FileMark → (nodes : List (List ℕ)) → LogInOrder → (swapped : Bool) → ℕ → Cause → Fields
 cause_fields_at files nodes log swapped e found =
     codes "cause" ∷ line_text files (event_at log.events e).line ∷ name_of nodes (event_at log.events e).node.0 ∷ cause_fields files log swapped found
 
--- whether the event at a place stands swapped with its node's event before it
-abbrev pub swapped_at : LogInOrder → (full e : ℕ) → Bool
-swapped_at log full e = is_swapped_in log full (index_in log.order e)
-
 -- the row of a rule, if the event at a place breaks it
 abbrev pub cause_row : List FileMark → (nodes : List (List ℕ)) → LogInOrder → (full e : ℕ) → Option Cause → List Fields
 cause_row files nodes log full e None = []
 cause_row files nodes log full e (Some found) = cause_fields_at files nodes log (swapped_at log full e) e found ∷ []
-
--- where the send stands of what the event at a place receives, if its message carried another stamp than the log claims there
-abbrev pub wrong_at : LogInOrder → ℕ → Option ℕ
-wrong_at log e = wrong_of log (index_in log.order e)
 
 -- the row of the event at a place whose message carried another stamp than such a send, if there is one
 abbrev pub wrong_row : List FileMark → (nodes : List (List ℕ)) → LogInOrder → ℕ → Option ℕ → List Fields

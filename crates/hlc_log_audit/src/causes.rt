@@ -5,7 +5,8 @@ ghost use Rattle.hlc_log_audit.specs.Answers.{told_in};
 ghost use Rattle.hlc_causes.specs.declared.answers.Causes.{Causes as CausesFound};
 ghost use Rattle.hlc_ordered_log.specs.InOrder.{IsInOrder};
 ghost use Rattle.hlc_ordered_log.specs.Counts.{AreCounted, no_findings};
-ghost use Rattle.hlc_log_audit.specs.Report.{AreCauses, NameEvents, NamesCausesAt, NamesEvent, cause_fields, cause_fields_at, cause_row, cause_rows, cause_rows_at, swapped_at, swapped_fields, wrong_at, wrong_row};
+ghost use Rattle.hlc_ordered_log.specs.Found.{AreCauses, NameEvents, swapped_at, wrong_at};
+ghost use Rattle.hlc_log_audit.specs.Report.{NamesEvent, cause_fields, cause_fields_at, cause_row, cause_rows, cause_rows_at, swapped_fields, wrong_row};
 
 use crate::lines::told_line;
 use crate::soundness::carries_wrongly;
@@ -16,26 +17,6 @@ use hlc_log_text::{Files, LineText, Names, node_name};
 use hlc_ordered_log::{Counts, OrderedLog};
 use hlc_stamp::{EventId, Stamp};
 use std::io::Write;
-
-/// The rules that the event at a place of the log breaks.
-pub fn causes_of(log: &OrderedLog, place: EventId, full: u32) -> Causes
-    requires ordered { IsInOrder log.now }
-    requires exists { place.0 < length log.now.events }
-    ensures causes { NamesCausesAt log.now full place.0 result }
-    ensures events { NameEvents log.now result }
-{
-    log.causes(log.position(place), full)
-}
-
-/// The send of what the event at a place of the log receives, if its message carried another stamp than the log claims for the send.
-pub fn wrongly_carried_at(log: &OrderedLog, place: EventId) -> Option<EventId>
-    requires ordered { IsInOrder log.now }
-    requires exists { place.0 < length log.now.events }
-    ensures value { place_of result ≡ wrong_at log.now place.0 }
-    ensures event { IfSome result (λ d. d.0 < length log.now.events) }
-{
-    log.wrongly_carried(log.position(place))
-}
 
 // Whether the event at a place of the log stands swapped with its node's event before it.
 fn is_swapped_at(log: &OrderedLog, place: EventId, full: u32) -> bool
@@ -302,8 +283,8 @@ fn push_each_cause<W: Write>(
         × AddsRows W.contents writer.old writer.new rows.old rows.new (cause_rows files.now nodes.now log.now full causes)) }
 {
     for place in 0..log.len() {
-        let found = causes_of(log, EventId(place), full);
-        let wrong = wrongly_carried_at(log, EventId(place));
+        let found = log.causes_of(EventId(place), full);
+        let wrong = log.wrongly_carried_at(EventId(place));
         push_causes_of(
             rows,
             files,

@@ -51,8 +51,8 @@
 //! Text that is not a log is answered by the one row `bad,LINE,WHY`, which names a column besides if one is missing or badly written.
 //!
 //! Of an opened log (`hlc_open_log`) `push_report` adds the rows of the report, and `push_answer` the one row that answers a question
-//! (`hlc_log_text::LogQuestion`), and `audit_opened` all rows that `audit_run` writes; of one that couldn't be opened `audit_unopened` does. `claimed_way` is the way that the `l` of a claimed stamp
-//! came, event by event. `causes_of` and `wrongly_carried_at` are what `cause` rows tell of an event, by its place in the log.
+//! (`hlc_log_text::LogQuestion`), and `audit_opened` all rows that `audit_run` writes; of one that couldn't be opened `audit_unopened` does.
+//! `claimed_way` is the way that the `l` of a claimed stamp came, event by event.
 //!
 //! But for that way it finds nothing itself: `hlc_open_log` reads, and `hlc_ordered_log`, `hlc_causes` and `hlc_explain` find.
 //!
@@ -127,7 +127,6 @@ mod words;
 pub use answer::push_answer;
 pub use audit::{audit_opened, audit_run, audit_unopened};
 pub use audited::Audited;
-pub use causes::{causes_of, wrongly_carried_at};
 pub use claimed::claimed_way;
 pub use hlc_csv::RecordsFault;
 pub use outcome::Outcome;

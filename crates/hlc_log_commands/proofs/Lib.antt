@@ -1,4 +1,6 @@
+mod CauseGroups
 mod DrawnLogs
 mod FollowingFacts
+mod GroupedAudits
 mod LengthsTold
 mod StoppedAudits

@@ -6,7 +6,6 @@ use Rattle.hlc_log_audit.specs.Audit.{HasEventCount}
 use Rattle.hlc_log_audit.specs.declared.outcome.Outcome.{Outcome}
 use Rattle.hlc_log_audit.specs.declared.outcome.Outcome.TheVariants as outcome
 use Rattle.hlc_log_audit.specs.declared.rules.AuditRules.{AuditRules}
-use Rattle.hlc_log_groups.specs.GroupRows.{IsGroupedAudit}
 use Rattle.hlc_log_groups.specs.declared.group_detail.GroupDetail.{GroupDetail}
 use Rattle.hlc_log_groups.specs.declared.group_detail.GroupDetail.TheVariants as detail
 use Rattle.hlc_audit_forms.specs.AuditText.{IsTextOf}
@@ -21,6 +20,7 @@ use Rattle.hlc_command_line.specs.declared.command_fault.CommandFault.{CommandFa
 use Rattle.hlc_command_line.specs.declared.command_fault.CommandFault.TheVariants as stop
 use Rattle.hlc_command_line.specs.declared.no_events.NoEvents.{NoEvents}
 use Rattle.hlc_command_line.specs.declared.no_events.NoEvents.TheVariants.{Log}
+use Rattle.hlc_log_commands.specs.GroupedAudit.{IsGroupedAudit}
 
 -- whether a form is text
 abbrev pub is_text : OutputForm → Bool

@@ -1,6 +1,8 @@
 pub mod Audited
 pub mod DrawnLog
 pub mod Following
+pub mod GroupedAudit
+pub mod Laws
 pub mod LogVectors
 pub mod PartLines
 pub mod Records

@@ -4,19 +4,21 @@ ghost use Rattle.std.specs.Prelude.{◌≡◌, [], IfErr, IfOk, IsErrOf, None, O
 ghost use Rattle.hlc_stamp.specs.declared.limits.TheConstants.{MAX_CAPACITY};
 ghost use Rattle.hlc_log_text.specs.ReadLog.{HasTooMany};
 ghost use Rattle.hlc_log_audit.specs.Audit.{StopsAudit, TellsEvents};
-ghost use Rattle.hlc_log_groups.specs.GroupRows.{EndsGroupedAudit};
 ghost use Rattle.hlc_command_line.specs.CommandFault.{IsOfAnswer, IsOfInput};
 ghost use Rattle.hlc_log_commands.specs.Audited.{IsAuditPassed, IsAuditedBut, IsAuditedBy, IsLogNote, audit_stop, log_note, rules_of, told_of};
 ghost use Rattle.hlc_log_commands.specs.Following.{IsOfQuestions};
+ghost use Rattle.hlc_log_commands.specs.GroupedAudit.{EndsGroupedAudit};
 ghost use Rattle.hlc_log_commands.specs.Records.{IsLengthTold, records_in};
 
+use crate::grouped_audit::audit_opening_grouped;
 use hlc_audit_forms::{write_json, write_text};
 use hlc_command_line::{AuditOptions, CommandFault, NoEvents, OutputForm};
 use hlc_csv::RecordsFault;
 use hlc_json_lines::{JsonRules, LogInput};
 use hlc_log_audit::{AuditRules, Audited, Outcome};
-use hlc_log_groups::{GroupDetail, audit_with_groups};
+use hlc_log_groups::GroupDetail;
 use hlc_log_text::{LogQuestion, NameKey};
+use hlc_open_log::open_log;
 use hlc_stamp::MAX_CAPACITY;
 use std::alloc::Global;
 use std::io::{Read, Write};
@@ -37,10 +39,11 @@ fn audit_records<I: Read + Drop, O: Write>(
         (records_in json (I.remaining reader)) (O.contents writer.old) (O.contents writer.new)) }
     ensures stopped { IfErr result (StopsAudit rules.records MAX_CAPACITY (records_in json (I.remaining reader)) writer.old writer.new) }
 {
-    match LogInput::new(alloc, reader, json) {
-        Ok(input) => audit_with_groups(alloc, input, writer, rules, told, asked, key),
-        Err(_) => Err(RecordsFault::Memory),
-    }
+    let Ok(input) = LogInput::new(alloc, reader, json) else {
+        return Err(RecordsFault::Memory);
+    };
+    let opening = open_log(alloc, input, rules.records, MAX_CAPACITY, key);
+    audit_opening_grouped(alloc, &opening, rules, told, asked, key, writer)
 }
 
 // Audits a log so, and keeps the rows.

@@ -19,6 +19,8 @@ mod audited_input;
 mod audited_log;
 mod drawn_log;
 mod following;
+mod grouped_audit;
+pub mod laws;
 mod log_with_vectors;
 mod opening;
 mod part_lines;

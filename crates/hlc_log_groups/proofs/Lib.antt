@@ -1,5 +1,3 @@
 pub mod GroupLaws
 pub mod GroupSteps
-pub mod GroupedAudits
 pub mod GroupsSoFar
-mod Positions

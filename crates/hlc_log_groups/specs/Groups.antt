@@ -12,7 +12,7 @@ use Rattle.hlc_causes.specs.declared.answers.Causes.{Causes}
 use Rattle.hlc_log.specs.Events.{event_at}
 use Rattle.hlc_log.specs.OrderSkeleton.{index_in}
 use Rattle.hlc_ordered_log.specs.InOrder.{LogInOrder, event_in_order}
-use Rattle.hlc_log_audit.specs.Report.{AreCausesBefore, wrong_at}
+use Rattle.hlc_ordered_log.specs.Found.{AreCausesBefore, wrong_at}
 use Rattle.hlc_log_groups.specs.Followed.{followed_in}
 use Rattle.hlc_log_groups.specs.contracts.broken_rule.BrokenRule.{the_type}
 use Rattle.hlc_log_groups.specs.declared.broken_rule.BrokenRule.{BrokenRule}

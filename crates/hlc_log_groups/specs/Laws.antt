@@ -1,26 +1,17 @@
 -- The laws of groups.
-use Rattle.std.specs.Prelude.{◌≡◌, ℕ, ◌<◌, List, Some, length}
+use Rattle.std.specs.Prelude.{◌≡◌, ℕ, ◌<◌, List, Some}
 use Rattle.std.specs.Map.{lookup}
 use Rattle.hlc_stamp.specs.Order.{Pair}
 use Rattle.hlc_causality.specs.ClockEvents.{ClockEvents}
 use Rattle.hlc_causes.specs.Given.{rule_pair_at}
-use Rattle.hlc_causes.specs.declared.answers.Causes.{Causes}
-use Rattle.hlc_ordered_log.specs.InOrder.{LogInOrder}
-use Rattle.hlc_log_text.specs.declared.file_mark.FileMark.{FileMark}
-use Rattle.hlc_log_audit.specs.Report.{cause_rows}
 use Rattle.hlc_log_groups.specs.Followed.{followed_at, pair_after}
-use Rattle.hlc_log_groups.specs.Groups.{AreGroups, Groups, KeyedCauses, is_same_key, keyed_in, total}
+use Rattle.hlc_log_groups.specs.Groups.{AreGroups, Groups, KeyedCauses, is_same_key}
 use Rattle.hlc_log_groups.specs.declared.cause_group.CauseGroup.{CauseGroup}
 use Rattle.hlc_log_groups.specs.declared.group_key.GroupKey.{GroupKey}
 
 -- the rule's pair comes directly after the one claimed at the event that it follows, or is the floor if it follows none
 abbrev pub RulePairFollows : Type 0
 RulePairFollows = (t : ClockEvents) (claimed : List Pair) (f : ℕ) → rule_pair_at t claimed f ≡ pair_after t claimed f (followed_at t claimed f)
-
--- the groups of a log have as many causes together as the report on it has rows of causes
-abbrev pub GroupsAddUp : Type 0
-GroupsAddUp = (files : List FileMark) (nodes : List (List ℕ)) (log : LogInOrder) (full : ℕ) (causes : List Causes) (groups : Groups) →
-    AreGroups (keyed_in log (length log.events) causes) groups → total groups ≡ length (cause_rows files nodes log full causes)
 
 -- no group is empty
 abbrev pub NoGroupIsEmpty : Type 0

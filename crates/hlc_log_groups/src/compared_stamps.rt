@@ -7,7 +7,6 @@ ghost use Rattle.hlc_log_groups.specs.Groups.{NamesEventsBefore};
 
 use crate::broken_rule::BrokenRule;
 use crate::cause_place::CausePlace;
-use crate::following::{seen_of, send_of};
 use hlc_causes::Claims;
 use hlc_ordered_log::OrderedLog;
 use hlc_stamp::Stamp;
@@ -20,7 +19,7 @@ fn seen_stamp(log: &OrderedLog, place: CausePlace) -> Stamp
 {
     let position = log.position(place.event);
     match place.compared {
-        Some(event) => seen_of(log, position, send_of(log, position)).stamp(event),
+        Some(event) => log.seen(position).stamp(event),
         None => log.execution().rule(position).floor,
     }
 }

@@ -2,13 +2,11 @@
 
 ghost use Rattle.std.specs.Prelude.{◌≡◌, ◌<◌, IfSome, length};
 ghost use Rattle.std.specs.Option.{ForSome};
-ghost use Rattle.hlc_causality.specs.ClockEvents.{clock_skeleton};
 ghost use Rattle.hlc_causality.specs.Neighbours.{place_of};
-ghost use Rattle.hlc_causality.specs.Predecessors.{previous_of, send_of};
-ghost use Rattle.hlc_ordered_log.specs.InOrder.{IsInOrder, clocks_of, seen_of};
+ghost use Rattle.hlc_ordered_log.specs.InOrder.{IsInOrder};
 ghost use Rattle.hlc_log_groups.specs.Followed.{followed_in, greater_of, unless_below};
 
-use hlc_causes::{Claims, Seen};
+use hlc_causes::Claims;
 use hlc_ordered_log::OrderedLog;
 use hlc_stamp::{EventId, Stamp};
 
@@ -48,39 +46,6 @@ fn unless_below<C: Claims>(claims: &C, floor: Stamp, event: Option<EventId>) -> 
     }
 }
 
-// Where the event of the same node stands before the one at a position.
-fn previous_of(log: &OrderedLog, position: EventId) -> Option<EventId>
-    requires ordered { IsInOrder log.now }
-    requires exists { position.0 < length log.now.events }
-    ensures value { place_of result ≡ previous_of (clock_skeleton (clocks_of log.now)) position.0 }
-    ensures exists { ForSome result (λ d. d.0 < length log.now.events) }
-{
-    log.execution().previous(position)
-}
-
-// Where the send stands of what the event at a position receives.
-pub(crate) fn send_of(log: &OrderedLog, position: EventId) -> Option<EventId>
-    requires ordered { IsInOrder log.now }
-    requires exists { position.0 < length log.now.events }
-    ensures value { place_of result ≡ send_of (clock_skeleton (clocks_of log.now)) position.0 }
-    ensures exists { ForSome result (λ d. d.0 < length log.now.events) }
-{
-    log.execution().send(position)
-}
-
-// The stamps that are claimed, as the event at a position saw them, which receives what this send sends.
-pub(crate) fn seen_of<'a>(
-    log: &'a OrderedLog,
-    position: EventId,
-    send: Option<EventId>,
-) -> Seen<'a, OrderedLog>
-    requires exists { position.0 < length log.now.events }
-    requires send { place_of send ≡ send_of (clock_skeleton (clocks_of log.now)) position.0 }
-    ensures { result ≡ seen_of log.now position.0 }
-{
-    Seen::new(log, send, log.event(position).carried)
-}
-
 /// The event whose stamp the stamp that the clock rule gives at a position comes directly after: the event of the same node before it, or the
 /// send of what it receives. It is the one with the greater stamp, as the event saw them claimed, and the former if they tie; `None` if the floor
 /// is greater than both.
@@ -92,8 +57,7 @@ pub fn followed(log: &OrderedLog, position: EventId) -> Option<EventId>
     ensures value { place_of result ≡ followed_in log.now position.0 }
     ensures event { IfSome result (λ d. d.0 < length log.now.events) }
 {
-    let send = send_of(log, position);
-    let seen = seen_of(log, position, send);
-    let greater = greater_of(&seen, previous_of(log, position), send);
+    let seen = log.seen(position);
+    let greater = greater_of(&seen, log.previous(position), log.send(position));
     unless_below(&seen, log.execution().rule(position).floor, greater)
 }

@@ -233,8 +233,8 @@ pub fn push_groups<W: Write>(
     Ok(())
 }
 
-// Writes the rows that tell so much of the groups of an opened log's causes.
-pub(crate) fn write_groups<W: Write>(
+/// Writes the rows that tell so much of the groups of an opened log's causes; if nothing is to be told, it looks for none.
+pub fn write_groups<W: Write>(
     alloc: Global,
     log: &OpenLog,
     told: GroupDetail,

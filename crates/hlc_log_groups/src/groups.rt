@@ -3,7 +3,7 @@ ghost use Rattle.std.specs.Bool.{then_some};
 ghost use Rattle.hlc_causality.specs.Neighbours.{place_of};
 ghost use Rattle.hlc_log.specs.OrderSkeleton.{index_in};
 ghost use Rattle.hlc_ordered_log.specs.InOrder.{IsInOrder, event_in_order};
-ghost use Rattle.hlc_log_audit.specs.Report.{NameEvents, wrong_at};
+ghost use Rattle.hlc_ordered_log.specs.Found.{NameEvents, wrong_at};
 ghost use Rattle.hlc_log_groups.specs.Followed.{followed_in};
 ghost use Rattle.hlc_log_groups.specs.Groups.{AreGroups, AreGroupsOf, KeyedCauses, NameBefore, NamesEventsBefore, cause_at, id_of, keyed_at, total, with_cause};
 
@@ -13,7 +13,6 @@ use crate::cause_place::CausePlace;
 use crate::following::followed;
 use crate::group_key::GroupKey;
 use hlc_causes::Causes;
-use hlc_log_audit::{causes_of, wrongly_carried_at};
 use hlc_log_text::NameKey;
 use hlc_ordered_log::OrderedLog;
 use hlc_stamp::{EventId, NodeId, Stamp};
@@ -198,8 +197,8 @@ pub fn groups_of(
     let mut groups = IndexMap::with_hasher(alloc, key);
     for place in 0..log.len() {
         let place = EventId(place);
-        let found = causes_of(log, place, full);
-        let wrong = wrongly_carried_at(log, place);
+        let found = log.causes_of(place, full);
+        let wrong = log.wrongly_carried_at(place);
         add_causes(&mut groups, log, place, found, wrong)?;
     }
     Ok(groups)

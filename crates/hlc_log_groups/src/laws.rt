@@ -1,15 +1,10 @@
 //! The laws of groups, as contracts of functions that do nothing.
 
-ghost use Rattle.hlc_log_groups.specs.Laws.{GroupsAddUp, NoGroupIsEmpty, RulePairFollows};
+ghost use Rattle.hlc_log_groups.specs.Laws.{NoGroupIsEmpty, RulePairFollows};
 
 /// The stamp that the clock rule gives comes directly after that of the event that it follows, or is the floor if it follows none.
 pub fn rule_stamp_follows()
     ensures { RulePairFollows }
-{}
-
-/// The groups of a log have as many causes together as the report on it has rows of causes.
-pub fn groups_add_up()
-    ensures { GroupsAddUp }
 {}
 
 /// No group is empty.

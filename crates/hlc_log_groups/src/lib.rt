@@ -2,11 +2,10 @@
 //!
 //! - `GroupKey` is what the causes of a group have in common, and `CauseGroup` how many they are, and where the first three of them stand, each a
 //!   `CausePlace`. A `BrokenRule` is what the rows of causes tell by their words.
-//! - `groups_of` makes the groups of a log (`hlc_ordered_log`), in one pass over its events, and `push_groups` adds their rows.
-//!   `GroupDetail` says how much is told of them.
+//! - `groups_of` makes the groups of a log (`hlc_ordered_log`), in one pass over its events, and `push_groups` adds their rows,
+//!   `write_groups` writes them. `GroupDetail` says how much is told of them.
 //! - `followed` says after which event the stamp of the clock rule comes, for causes that are `ahead`: it is what such a cause compares with.
-//! - `audit_with_groups` audits a log as `hlc_log_audit` does, and then writes so much of its groups.
-//! - `laws` says that the groups have as many causes together as there are rows of causes, and that none is empty.
+//! - `laws` says that none is empty.
 //!
 //! The rows, in the order of the first cause of each group, as `cause` rows stand:
 //!
@@ -18,7 +17,7 @@
 //!   three, the stamp that it claims, and the line and the stamp, as it saw that, of the event with which the rule compares; or nothing and the floor,
 //!   if the rule compares with none. Of a message that carried another stamp than its send logs, it is the carried stamp, and then the logged one.
 //!
-//! It finds no cause itself: `hlc_log_audit` does.
+//! It finds no cause itself: `hlc_ordered_log` does.
 #![tactic(auto)]
 
 mod broken_rule;
@@ -29,7 +28,6 @@ mod following;
 mod group_detail;
 mod group_key;
 mod group_rows;
-mod grouped_audit;
 mod groups;
 pub mod laws;
 
@@ -39,7 +37,5 @@ pub use cause_place::CausePlace;
 pub use following::followed;
 pub use group_detail::GroupDetail;
 pub use group_key::GroupKey;
-pub use group_rows::push_groups;
-pub use grouped_audit::audit_with_groups;
+pub use group_rows::{push_groups, write_groups};
 pub use groups::groups_of;
-pub use hlc_csv::RecordsFault;

@@ -9,6 +9,7 @@ mod MessageCounting
 mod MoreMessages
 mod OtherOrders
 pub mod Ordering
+pub mod PlacedCauses
 pub mod Rearranged
 pub mod ReorderedTraces
 pub mod SeenTraces

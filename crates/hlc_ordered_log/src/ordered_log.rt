@@ -1,4 +1,4 @@
-ghost use Rattle.std.specs.Prelude.{◌≡◌, ◌<◌, ◌≤◌, All, IfOk, OnErr, OnOk, length};
+ghost use Rattle.std.specs.Prelude.{◌≡◌, ◌<◌, ◌≤◌, All, IfOk, IfSome, OnErr, OnOk, length};
 ghost use Rattle.hlc_stamp.specs.Ids.{places_of};
 ghost use Rattle.std.specs.Option.{ForSome};
 ghost use Rattle.hlc_causality.specs.ClockEvents.{clock_skeleton};
@@ -9,7 +9,8 @@ ghost use Rattle.hlc_execution.specs.Execution.{HasLeastClockStamps, clock_of};
 ghost use Rattle.hlc_log.specs.CausalOrder.{IsCausalOrder, place_at};
 ghost use Rattle.hlc_log.specs.Events.{IsInRange, IsNumbered, event_at};
 ghost use Rattle.hlc_log.specs.Messages.{AreMessagesSound};
-ghost use Rattle.hlc_ordered_log.specs.Found.{FindsAt, NamesCausesIn, is_swapped_in};
+ghost use Rattle.hlc_log.specs.OrderSkeleton.{index_in};
+ghost use Rattle.hlc_ordered_log.specs.Found.{FindsAt, NameEvents, NamesCausesAt, NamesCausesIn, is_swapped_in, wrong_at};
 ghost use Rattle.hlc_ordered_log.specs.InOrder.{AreFilled, AreOfNodes, ArePositions, EachDiffers, EachExists, IsInOrder, carried_of, claimed_of, clocks_of, event_in_order, reading_told, seen_of, skeleton_of, stamp_told, wrong_of};
 
 use crate::giving::give_stamps;
@@ -181,8 +182,8 @@ impl OrderedLog {
         self.order[position.0 as usize]
     }
 
-    // Where the send stands of what the event at a position receives.
-    pub(crate) fn send(&self, position: EventId) -> Option<EventId>
+    /// Where the send stands of what the event at a position receives.
+    pub fn send(&self, position: EventId) -> Option<EventId>
         requires { position.0 < length self.now.events }
         ensures value { place_of result ≡ send_of (clock_skeleton (clocks_of self.now)) position.0 }
         ensures exists { ForSome result (λ d. d.0 < length (claimed_of self.now)) }
@@ -198,8 +199,8 @@ impl OrderedLog {
         self.log.carried_at(self.order[position.0 as usize])
     }
 
-    // The stamps that are claimed, as the event at a position saw them.
-    fn seen(&self, position: EventId) -> Seen<'_, OrderedLog>
+    /// The stamps that are claimed, as the event at a position saw them.
+    pub fn seen(&self, position: EventId) -> Seen<'_, OrderedLog>
         requires { position.0 < length self.now.events }
         ensures { result ≡ seen_of self.now position.0 }
     {
@@ -262,8 +263,8 @@ impl OrderedLog {
             && self.stand_swapped(position, previous, full)
     }
 
-    // Where the event of the same node stands before the one at a position.
-    fn previous(&self, position: EventId) -> Option<EventId>
+    /// Where the event of the same node stands before the one at a position.
+    pub fn previous(&self, position: EventId) -> Option<EventId>
         requires { position.0 < length self.now.events }
         ensures value { place_of result ≡ previous_of (clock_skeleton (clocks_of self.now)) position.0 }
         ensures exists { ForSome result (λ d. d.0 < length self.now.events) }
@@ -301,8 +302,28 @@ impl OrderedLog {
         requires { place.0 < length self.now.events }
         ensures exists { result.0 < length self.now.events }
         ensures place { place_at self.now.order result.0 ≡ place.0 }
+        ensures index { result.0 ≡ index_in self.now.order place.0 }
+        ensures ordered { IsInOrder self.now }
     {
         self.positions[place.0 as usize]
+    }
+
+    /// The rules that the event at a place of the log breaks.
+    pub fn causes_of(&self, place: EventId, full: u32) -> Causes
+        requires { place.0 < length self.now.events }
+        ensures causes { NamesCausesAt self.now full place.0 result }
+        ensures events { NameEvents self.now result }
+    {
+        self.causes(self.position(place), full)
+    }
+
+    /// The send of what the event at a place of the log receives, if its message carried another stamp than the log claims for the send.
+    pub fn wrongly_carried_at(&self, place: EventId) -> Option<EventId>
+        requires { place.0 < length self.now.events }
+        ensures value { place_of result ≡ wrong_at self.now place.0 }
+        ensures event { IfSome result (λ d. d.0 < length self.now.events) }
+    {
+        self.wrongly_carried(self.position(place))
     }
 }
 

@@ -7,7 +7,6 @@
 //! Whole scripts:
 //!
 //! - `run` answers a script, and gives its `Counts` and its history.
-//! - `run_up_to` does so with a limit of the caller's on how many records there may be.
 //! - `run_noting` also gives the messages that the script lost, or whose delivery it saw refused for a drift limit, as `Undelivered`.
 //! - `export` writes a history as a script.
 //! - `print_steps` writes lists of steps as a script.
@@ -109,7 +108,7 @@ pub use question::Question;
 pub use question_reply::reply_to;
 pub use ran::Ran;
 pub use reply::Reply;
-pub use script::{run, run_noting, run_up_to};
+pub use script::{run, run_noting};
 pub use statement::Statement;
 pub use steps::print_steps;
 pub use text_fault::TextFault;

@@ -90,28 +90,6 @@ fn run_keeping<R: Read + Drop, W: Write>(
     session.finish(end, writer)
 }
 
-/// Answers a script of at most so many records, as `run` does.
-///
-/// After a fault of the writer or of memory nothing is promised of what the writer got.
-pub fn run_up_to<R: Read + Drop, W: Write>(
-    alloc: Global,
-    reader: R,
-    writer: &mut W,
-    settings: Settings,
-    most: u64,
-) -> Result<Ran, TextFault>
-    ensures ok { IfOk result (Finished most settings (R.remaining reader) (W.contents writer.old) (W.contents writer.new)) }
-    ensures read { IsErrOf result (TextFault.Records RecordsFault.Read)
-        → StoppedAfter most settings (R.remaining reader) (W.contents writer.old) (W.contents writer.new) }
-    ensures too_long { IsErrOf result (TextFault.Records RecordsFault.TooLong)
-        → Overran most settings (R.remaining reader) (W.contents writer.old) (W.contents writer.new) }
-    ensures settings { IsErrOf result TextFault.Settings ↔ IsSome (new_refusal settings.nodes settings.capacity) }
-    ensures nothing { IsErrOf result TextFault.Settings → Keeps (W.contents writer.old) (W.contents writer.new) }
-{
-    let (ran, _) = run_keeping(alloc, reader, writer, settings, most, false)?;
-    Ok(ran)
-}
-
 /// Answers a script as `run` does, and also gives the messages that it left undelivered, in the order in which it lost them, or in
 /// which their deliveries were refused.
 ///
@@ -159,5 +137,6 @@ pub fn run<R: Read + Drop, W: Write>(
     ensures settings { IsErrOf result TextFault.Settings ↔ IsSome (new_refusal settings.nodes settings.capacity) }
     ensures nothing { IsErrOf result TextFault.Settings → Keeps (W.contents writer.old) (W.contents writer.new) }
 {
-    run_up_to(alloc, reader, writer, settings, MAX_RECORDS)
+    let (ran, _) = run_keeping(alloc, reader, writer, settings, MAX_RECORDS, false)?;
+    Ok(ran)
 }

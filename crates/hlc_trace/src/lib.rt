@@ -4,7 +4,6 @@
 //! docs/FORMATS.md has the records, and docs/RECIPES.md turns the logs of several databases into them.
 //!
 //! - `judge_run` reads a trace to its end, and then writes one row for each claim.
-//! - `judge_up_to` does so with a limit of the caller's on how many records there may be.
 //!
 //! If a record is no claim, or a claim is one that no trace can have, one row names the first such place, and there are no
 //! verdicts. No verdict is written before the whole trace is read. For claims that are already in memory call `hlc_verdict`.
@@ -28,4 +27,4 @@ mod trace_end;
 mod trace_word;
 
 pub use hlc_csv::RecordsFault;
-pub use trace::{judge_run, judge_up_to};
+pub use trace::judge_run;

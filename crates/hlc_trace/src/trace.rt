@@ -135,29 +135,6 @@ fn tell_claims<W: Write>(alloc: Global, claims: &[Claim], writer: &mut W) -> Res
     }
 }
 
-/// Judges a trace of at most so many records, as `judge_run` does.
-///
-/// After a fault of the writer or of memory nothing is promised of what the writer got.
-pub fn judge_up_to<R: Read + Drop, W: Write>(
-    alloc: Global,
-    reader: R,
-    writer: &mut W,
-    most: u64,
-) -> Result<(), RecordsFault>
-    ensures ok { OnOk result (IsJudged most (R.remaining reader) (W.contents writer.old) (W.contents writer.new)) }
-    ensures read { IsErrOf result RecordsFault.Read → writer.new ≡ writer.old }
-    ensures too_long { IsErrOf result RecordsFault.TooLong → HasTooMany most (R.remaining reader) }
-    ensures nothing { IsErrOf result RecordsFault.TooLong → writer.new ≡ writer.old }
-{
-    let mut claims = Vec::new(alloc);
-    match read_claims(alloc, reader, &mut claims, most)? {
-        TraceEnd::Reading(End::NoRecordLeft) => Ok(tell_claims(alloc, &claims, writer)?),
-        TraceEnd::Reading(End::ReadFailed(fault)) => Err(RecordsFault::from(fault)),
-        TraceEnd::Reading(End::PastLimit) => Err(RecordsFault::TooLong),
-        TraceEnd::NoClaim(bad) => Ok(tell_bad(alloc, claims.len() as u64, bad.word(), writer)?),
-    }
-}
-
 /// Judges a trace, and writes one row for each claim with the verdict on it.
 ///
 /// If a record is not a claim, or the trace is bad, the only row names the first such place. A record that is not a claim
@@ -176,5 +153,11 @@ pub fn judge_run<R: Read + Drop, W: Write>(
     ensures too_long { IsErrOf result RecordsFault.TooLong → HasTooMany MAX_RECORDS (R.remaining reader) }
     ensures nothing { IsErrOf result RecordsFault.TooLong → writer.new ≡ writer.old }
 {
-    judge_up_to(alloc, reader, writer, MAX_RECORDS)
+    let mut claims = Vec::new(alloc);
+    match read_claims(alloc, reader, &mut claims, MAX_RECORDS)? {
+        TraceEnd::Reading(End::NoRecordLeft) => Ok(tell_claims(alloc, &claims, writer)?),
+        TraceEnd::Reading(End::ReadFailed(fault)) => Err(RecordsFault::from(fault)),
+        TraceEnd::Reading(End::PastLimit) => Err(RecordsFault::TooLong),
+        TraceEnd::NoClaim(bad) => Ok(tell_bad(alloc, claims.len() as u64, bad.word(), writer)?),
+    }
 }

@@ -24,19 +24,19 @@ pub returns-then-asks_for_text-clause-noted : goal.returns-then-asks_for_text-cl
 returns-then-asks_for_text-clause-noted g c =
     if_ok c.unnoted.result _ _
     (λ note none. inl (text_asked (texts c.args.arguments.now) c.in-Err.fault c.in-Err.ensures.refused (c.asks_for_text.ensures.0 c.if-asks_for_text.true), none))
-    (has_no_note c.show.result _ c.unnoted.ensures)
+    (has_no_note c.show-shown.result _ c.unnoted.ensures)
 
 pub returns-then-asks_for_text-clause-told : goal.returns-then-asks_for_text-clause-told
 returns-then-asks_for_text-clause-told g c =
-    err_unnoted c.show.result _ _ _ (λ fault write answer. absurd (rw write at answer)) c.unnoted.ensures c.show.ensures
+    err_unnoted c.show-shown.result _ _ _ (λ fault write answer. absurd (rw write at answer)) c.unnoted.ensures c.show-shown.ensures
 
 pub returns-then-asks_for_text-clause-stopped : goal.returns-then-asks_for_text-clause-stopped
 returns-then-asks_for_text-clause-stopped g c =
-    err_unnoted c.show.result _ _ _ (λ fault write. rw write tt) c.unnoted.ensures c.show.ensures
+    err_unnoted c.show-shown.result _ _ _ (λ fault write. rw write tt) c.unnoted.ensures c.show-shown.ensures
 
 pub returns-then-asks_for_text-clause-unread : goal.returns-then-asks_for_text-clause-unread
 returns-then-asks_for_text-clause-unread g c =
-    err_unnoted c.show.result _ _ _ (λ fault write input. absurd (rw write at input)) c.unnoted.ensures c.show.ensures
+    err_unnoted c.show-shown.result _ _ _ (λ fault write input. absurd (rw write at input)) c.unnoted.ensures c.show-shown.ensures
 
 pub returns-then-asks_for_text-clause-begun : goal.returns-then-asks_for_text-clause-begun
 returns-then-asks_for_text-clause-begun g c =

@@ -4,7 +4,8 @@ use Rattle.hlc_csv.specs.Rows.{AddsText, Fields, text_of}
 use Rattle.hlc_ordered_log.specs.InOrder.{IsCarriedRightly}
 use Rattle.hlc_log_audit.specs.Audit.{CarriesWrongly}
 use Rattle.hlc_log_text.proofs.RowsAdded.{adds_none}
-use Rattle.hlc_log_audit.proofs.CauseRows.{no_cause_rows, none_named}
+use Rattle.hlc_ordered_log.proofs.PlacedCauses.{none_named}
+use Rattle.hlc_log_audit.proofs.CauseRows.{no_cause_rows}
 use Rattle.hlc_log_audit.proofs.LeastStamps.{carried_rightly, no_cause_at, none_wrong_at}
 use Rattle.hlc_log_audit.proofs.causes.push_causes.Goals as goal
 

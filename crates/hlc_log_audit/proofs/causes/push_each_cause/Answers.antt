@@ -2,8 +2,9 @@ use Rattle.std.proofs.Common.{◌≡◌, ◌++◌, ◌∷◌, [], ℕ, length, a
 use Rattle.std.specs.List.{flat_map}
 use Rattle.hlc_causality.specs.Places.{places_below}
 use Rattle.hlc_csv.specs.Rows.{AddsText, text_of}
-use Rattle.hlc_log_audit.specs.Report.{AreCausesBefore}
-use Rattle.hlc_log_audit.proofs.CauseRows.{adds_cause, causes_push, no_answers, row_at}
+use Rattle.hlc_ordered_log.specs.Found.{AreCausesBefore}
+use Rattle.hlc_ordered_log.proofs.PlacedCauses.{causes_push, no_answers}
+use Rattle.hlc_log_audit.proofs.CauseRows.{adds_cause, row_at}
 use Rattle.hlc_log_text.proofs.RowsAdded.{adds_none}
 use Rattle.hlc_log_audit.proofs.causes.push_each_cause.Goals as goal
 

@@ -3,7 +3,7 @@ use Rattle.std.specs.List.{flat_map}
 use Rattle.hlc_causality.specs.Places.{places_below}
 use Rattle.hlc_causes.specs.declared.answers.Causes.{Causes}
 use Rattle.hlc_csv.specs.Rows.{AddsText, text_of}
-use Rattle.hlc_log_audit.specs.Report.{AreCausesBefore}
+use Rattle.hlc_ordered_log.specs.Found.{AreCausesBefore}
 use Rattle.hlc_log_audit.proofs.CauseRows.{row_at}
 use Rattle.hlc_log_audit.proofs.causes.push_each_cause.Given as goal
 

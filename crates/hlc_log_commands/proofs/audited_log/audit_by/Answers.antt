@@ -9,13 +9,13 @@ use Rattle.hlc_log_text.specs.ReadLog.{HasTooMany}
 use Rattle.hlc_log_audit.specs.Audit.{TellsEvents}
 use Rattle.hlc_log_audit.specs.declared.outcome.Outcome.{Outcome}
 use Rattle.hlc_log_audit.specs.declared.rules.AuditRules.{AuditRules}
-use Rattle.hlc_log_groups.specs.GroupRows.{IsGroupedAudit}
 use Rattle.hlc_log_groups.specs.declared.group_detail.GroupDetail.{GroupDetail}
 use Rattle.hlc_audit_forms.specs.AuditText.{IsTextOf}
 use Rattle.hlc_audit_forms.specs.JsonRows.{IsJsonOf}
 use Rattle.hlc_command_line.specs.declared.line_order.AuditOptions.{AuditOptions}
 use Rattle.hlc_command_line.specs.declared.line_order.OutputForm.{OutputForm}
 use Rattle.hlc_log_commands.specs.Audited.{IsAuditIn, IsToldAudit, rules_of, told_of}
+use Rattle.hlc_log_commands.specs.GroupedAudit.{IsGroupedAudit}
 use Rattle.hlc_log_commands.specs.Records.{records_in}
 use Rattle.hlc_log_commands.proofs.StoppedAudits.{stopped_empty, stopped_long, stopped_read}
 use Rattle.hlc_log_commands.proofs.audited_log.audit_by.Goals as goal

@@ -12,27 +12,27 @@ use Rattle.hlc_log_groups.proofs.following.followed.Goals as goal
 pub greater_of-greater-requires-clause-first : goal.greater_of-greater-requires-clause-first
 greater_of-greater-requires-clause-first c x is =
     let log = c.args.log.now in
-    let seen = ap (λ (pairs : List Pair). length pairs) c.seen_of-seen.ensures in
+    let seen = ap (λ (pairs : List Pair). length pairs) c.seen-seen.ensures in
     omega (
       arith,
       seen,
       length-seen_of log c.args.position.0,
       length-claimed_of log,
       length-skeleton_of log c.requires.ordered,
-      c.previous_of.ensures.exists x is,
+      c.previous.ensures.exists x is,
     )
 
 pub greater_of-greater-requires-clause-second : goal.greater_of-greater-requires-clause-second
 greater_of-greater-requires-clause-second c x is =
     let log = c.args.log.now in
-    let seen = ap (λ (pairs : List Pair). length pairs) c.seen_of-seen.ensures in
+    let seen = ap (λ (pairs : List Pair). length pairs) c.seen-seen.ensures in
     omega (
       arith,
       seen,
       length-seen_of log c.args.position.0,
       length-claimed_of log,
       length-skeleton_of log c.requires.ordered,
-      c.send_of-send.ensures.exists x is,
+      c.send.ensures.exists x is,
     )
 
 pub rule-requires : goal.rule-requires
@@ -49,9 +49,9 @@ returns-clause-value c =
     let floor : c.rule.result.floor ≡ (clock_event_at t k).floor =
     c.rule.ensures.floor ∙ ap (λ (t : ClockEvents). (clock_event_at t k).floor) c.execution.ensures.clocks in
     c.unless_below.ensures.value
-    ∙ ap (unless_below c.seen_of-seen.result c.rule.result.floor) c.greater_of-greater.ensures.value
-    ∙ (λ i. unless_below (c.seen_of-seen.ensures i) (floor i)
-    (greater_of (c.seen_of-seen.ensures i) (c.previous_of.ensures.value i) (c.send_of-send.ensures.value i)))
+    ∙ ap (unless_below c.seen-seen.result c.rule.result.floor) c.greater_of-greater.ensures.value
+    ∙ (λ i. unless_below (c.seen-seen.ensures i) (floor i)
+    (greater_of (c.seen-seen.ensures i) (c.previous.ensures.value i) (c.send.ensures.value i)))
 
 named : {P : EventId → Type 0} (o : Option EventId) → ((d : EventId) → o ≡ Some d → P d) → IfSome o P
 named None each = tt
@@ -60,7 +60,7 @@ named (Some d) each = each d refl
 pub returns-clause-event : goal.returns-clause-event
 returns-clause-event c =
     let log = c.args.log.now in
-    let seen = ap (λ (pairs : List Pair). length pairs) c.seen_of-seen.ensures in
+    let seen = ap (λ (pairs : List Pair). length pairs) c.seen-seen.ensures in
     named c.unless_below.result (λ d is.
     omega (
       arith,

@@ -2,7 +2,7 @@ use Rattle.std.proofs.Common.{◌≡◌, ◌++◌, ◌∙◌, Option, Some, ap, 
 use Rattle.std.specs.Prelude.{option_map, option_to_list}
 use Rattle.std.proofs.lemmas.Result.{on_ok_weaker}
 use Rattle.hlc_stamp.specs.declared.id.EventId.{EventId}
-use Rattle.hlc_log_audit.specs.Report.{wrong_at}
+use Rattle.hlc_ordered_log.specs.Found.{wrong_at}
 use Rattle.hlc_log_groups.specs.Groups.{AreGroups, KeyedCauses, cause_at, id_of, keyed_at}
 use Rattle.hlc_log_groups.specs.declared.broken_rule.BrokenRule.TheVariants as rule
 use Rattle.hlc_log_groups.proofs.GroupSteps.{five_more, id_of-place_of}

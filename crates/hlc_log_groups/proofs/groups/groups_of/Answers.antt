@@ -1,6 +1,6 @@
 use Rattle.std.proofs.Common.{◌≡◌, ℕ, [], ◌∷◌, ◌++◌, length, arith, subst, sym, ap}
-use Rattle.hlc_log_audit.specs.Report.{AreCausesBefore}
-use Rattle.hlc_log_audit.proofs.CauseRows.{causes_push, no_answers}
+use Rattle.hlc_ordered_log.specs.Found.{AreCausesBefore}
+use Rattle.hlc_ordered_log.proofs.PlacedCauses.{causes_push, no_answers}
 use Rattle.hlc_log_groups.specs.Groups.{AreGroups, KeyedCauses, keyed_in, total}
 use Rattle.hlc_log_groups.proofs.GroupSteps.{no_groups, none_name}
 use Rattle.hlc_log_groups.proofs.GroupsSoFar.{keyed_more}

@@ -1,6 +1,6 @@
 use Rattle.std.proofs.Common.{◌*◌, ◌≤◌, List, length}
 use Rattle.hlc_causes.specs.declared.answers.Causes.{Causes}
-use Rattle.hlc_log_audit.specs.Report.{AreCausesBefore}
+use Rattle.hlc_ordered_log.specs.Found.{AreCausesBefore}
 use Rattle.hlc_log_groups.specs.Groups.{AreGroups, NameBefore, keyed_in, total}
 use Rattle.hlc_log_groups.proofs.groups.groups_of.Given as goal
 

@@ -1,4 +1,4 @@
-use Rattle.hlc_log_groups.proofs.grouped_audit.audit_opened_grouped.Goals as goal
+use Rattle.hlc_log_commands.proofs.grouped_audit.audit_opened_grouped.Goals as goal
 
 pub returns-clause-told : goal.returns-clause-told
 returns-clause-told g c =

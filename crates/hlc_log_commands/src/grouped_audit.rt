@@ -7,17 +7,16 @@ ghost use Rattle.hlc_csv.specs.Rows.{Fields, text_of};
 ghost use Rattle.hlc_log_text.specs.StampForms.{greatest_c};
 ghost use Rattle.hlc_open_log.specs.Unopened.{IsOpening};
 ghost use Rattle.hlc_log_audit.specs.Audit.{AreRowsTold, IsOutcome, StopsAudit, all_asked};
-ghost use Rattle.hlc_log_groups.specs.GroupRows.{AreGroupRowsIf, EndsGroupedAudit};
+ghost use Rattle.hlc_log_groups.specs.GroupRows.{AreGroupRowsIf};
+ghost use Rattle.hlc_log_commands.specs.GroupedAudit.{EndsGroupedAudit};
 
-use crate::group_detail::GroupDetail;
-use crate::group_rows::write_groups;
 use hlc_csv::{OutputFault, RecordsFault};
 use hlc_log_audit::{AuditRules, Audited, audit_opened, audit_unopened};
+use hlc_log_groups::{GroupDetail, write_groups};
 use hlc_log_text::{LogQuestion, NameKey};
-use hlc_open_log::{OpenFault, OpenLog, open_log};
-use hlc_stamp::MAX_CAPACITY;
+use hlc_open_log::{OpenFault, OpenLog};
 use std::alloc::Global;
-use std::io::{Read, Write};
+use std::io::Write;
 
 // Writes the rows that tell of a log that was opened by these rules, and then what is to be told of the groups of its causes.
 fn audit_opened_grouped<W: Write>(
@@ -42,7 +41,7 @@ fn audit_opened_grouped<W: Write>(
 }
 
 // Tells what there is to tell of an input, which was opened as a log by these rules, or wasn't. Whoever owns the log has one way out.
-fn audit_opening_grouped<W: Write>(
+pub(crate) fn audit_opening_grouped<W: Write>(
     alloc: Global,
     opening: &Result<OpenLog, OpenFault>,
     rules: AuditRules,
@@ -61,23 +60,4 @@ fn audit_opening_grouped<W: Write>(
         Ok(log) => Ok(audit_opened_grouped(alloc, log, rules, told, asked, key, writer)?),
         Err(fault) => audit_unopened(alloc, fault, writer),
     }
-}
-
-/// Audits a log as `hlc_log_audit::audit_run` does, and then writes the rows that tell so much of the groups of its causes.
-///
-/// The groups are those of the whole log, whether its report is written or not. Of input that is no log none are told.
-pub fn audit_with_groups<R: Read + Drop, W: Write>(
-    alloc: Global,
-    reader: R,
-    writer: &mut W,
-    rules: AuditRules,
-    told: GroupDetail,
-    asked: &[LogQuestion],
-    key: NameKey,
-) -> Result<Audited, RecordsFault>
-    ensures audited { IfOk result (EndsGroupedAudit rules told asked.now (R.remaining reader) (W.contents writer.old) (W.contents writer.new)) }
-    ensures stopped { IfErr result (StopsAudit rules.records MAX_CAPACITY (R.remaining reader) writer.old writer.new) }
-{
-    let opening = open_log(alloc, reader, rules.records, MAX_CAPACITY, key);
-    audit_opening_grouped(alloc, &opening, rules, told, asked, key, writer)
 }

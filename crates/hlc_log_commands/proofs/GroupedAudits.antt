@@ -11,7 +11,8 @@ use Rattle.hlc_log_audit.specs.Audit.{AreRowsTold, IsBadTold, IsOutcome, all_ask
 use Rattle.hlc_log_audit.specs.declared.audited.Audited.{Audited}
 use Rattle.hlc_log_audit.specs.declared.rules.AuditRules.{AuditRules}
 use Rattle.hlc_log_audit.proofs.Telling.{bad_ends, opened_ends}
-use Rattle.hlc_log_groups.specs.GroupRows.{AreGroupRowsIf, EndsGroupedAudit}
+use Rattle.hlc_log_groups.specs.GroupRows.{AreGroupRowsIf}
+use Rattle.hlc_log_commands.specs.GroupedAudit.{EndsGroupedAudit}
 use Rattle.hlc_log_groups.specs.declared.group_detail.GroupDetail.{GroupDetail}
 use Rattle.hlc_log_groups.proofs.GroupSteps.{appends_none}
 

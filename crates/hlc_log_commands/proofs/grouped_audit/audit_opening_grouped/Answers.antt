@@ -1,8 +1,8 @@
 use Rattle.std.proofs.lemmas.Result.{IfErr-weaker, IfOk-weaker}
 use Rattle.hlc_stamp.specs.declared.limits.TheConstants.{MAX_CAPACITY}
 use Rattle.hlc_log_audit.proofs.Telling.{stops_with}
-use Rattle.hlc_log_groups.proofs.GroupedAudits.{bad_ends_grouped, opened_ends_grouped}
-use Rattle.hlc_log_groups.proofs.grouped_audit.audit_opening_grouped.Goals as goal
+use Rattle.hlc_log_commands.proofs.GroupedAudits.{bad_ends_grouped, opened_ends_grouped}
+use Rattle.hlc_log_commands.proofs.grouped_audit.audit_opening_grouped.Goals as goal
 
 pub returns-in_ok-audit_opened_grouped-in-Ok-clause-audited : goal.returns-in_ok-audit_opened_grouped-in-Ok-clause-audited
 returns-in_ok-audit_opened_grouped-in-Ok-clause-audited g c = λ bytes opening.
